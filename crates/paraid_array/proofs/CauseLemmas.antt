@@ -63,7 +63,7 @@ use Rattle.paraid_upkeep.specs.declared.fault.ReplaceFault.TheVariants.{NoDisk a
 use Rattle.paraid_array.proofs.AnswerLemmas.{same_test}
 use Rattle.paraid_session.proofs.FaultLemmas.{same_counts}
 use Rattle.paraid_session.specs.Faults.{HaveNotFallen}
-use Rattle.paraid_session.specs.Powers.{AreAllSynced, FitsSlots}
+use Rattle.paraid_session.specs.Powers.{AreSlotsSynced, FitsSlots}
 use Rattle.paraid_session.specs.Turn.{halt_told, may_halt}
 use Rattle.paraid_array.specs.declared.array.Array.{Array}
 use Rattle.paraid_array.specs.Arrays.{shown_of_array}
@@ -185,7 +185,7 @@ halts_not o halt is none = let z : Some halt ≡ None = sym is ∙ none in cc
 
 -- The event was served, or two disks were lost in it.
 module _ (x y : Shown) (event : Event) (takes : Takes x event) (busy : quiet_answer x event ≡ None) (setup : y.setup ≡ x.setup) (later : HaveNotFallen x.slot y.slot) where
-  pub done_cause : (answer : Answer) → y.halt ≡ halt_told answer → (y.halt ≡ None → y.gear ≡ y.meta.gear) → Counts answer x y → Does x event answer y → CommitsFew x y (most_commits x event) → FitsSlots y.slot y.meta → AreAllSynced y.meta y.slot → HasCause x event answer y
+  pub done_cause : (answer : Answer) → y.halt ≡ halt_told answer → (y.halt ≡ None → y.gear ≡ y.meta.gear) → Counts answer x y → Does x event answer y → CommitsFew x y (most_commits x event) → FitsSlots y.slot y.meta → AreSlotsSynced y.meta y.slot → HasCause x event answer y
   done_cause answer halt gear counts does commits powered synced = record { reason = reason_done takes busy does; setup = setup; halt = λ not. halt; gear = λ not. told_gear x y answer halt gear (no_halt_done x y event answer does); counts = counts; commits = λ still. commits; later = later; fits = λ still. powered; synced = λ still. synced }
 
   pub two_cause : may_halt event ≡ true → y.gear ≡ x.gear → UsesOwn event x y → (pair : Two) → y.halt ≡ Some (HaltTwo pair) → HaltsByTwoLost (named_out x.meta.out) event x.slot y.slot (Some (HaltTwo pair)) → HasCause x event (Halted (HaltTwo pair)) y
@@ -257,7 +257,7 @@ module _ {R : Type 0} {g : _} (slot : R → ℕ → Slot) (a : Array R g) (new :
 
 -- nothing was done for the event
 pub still_cause : (x y : Shown) (event : Event) (answer : Answer) → Takes x event → quiet_answer x event ≡ Some answer → IsUnchanged x y → y.setup ≡ x.setup → y.halt ≡ halt_told answer → (y.halt ≡ None → y.gear ≡ y.meta.gear) → Counts answer x y → HaveNotFallen x.slot y.slot
-    → FitsSlots y.slot y.meta → AreAllSynced y.meta y.slot → HasCause x event answer y
+    → FitsSlots y.slot y.meta → AreSlotsSynced y.meta y.slot → HasCause x event answer y
 still_cause x y event answer takes is same setup halt gear counts later powered synced = record { reason = reason_quiet takes is same; setup = setup; halt = λ not. halt; gear = λ not. told_gear x y answer halt gear (no_halt_quiet x event answer is); counts = counts; commits = λ still. commits_none x y (most_commits x event) (ap (λ (m : Meta). m.epoch) same.meta); later = later; fits = λ still. powered; synced = λ still. synced }
 
 -- why the disk that is out, or none, refuses
@@ -286,7 +286,7 @@ lost_meta m n e d none named (Some x) is =
 -- a disk that is taken out
 module _ {R : Type 0} {g : _} (slot : R → ℕ → Slot) (a : Array R g) (new : Core R g) (sum : ℕ) (d : ℕ) (takes : Takes (shown_of_array slot a) (Fail d)) (same_setup : a.core.meta.setup ≡ a.setup) (energy : sum ≡ a.ledger.total)
     (later : HaveNotFallen (slot (core_rack a.core)) (slot (core_rack new))) (writes : new.meta.writes ≡ a.core.meta.writes) (table : new.dirty ≡ a.core.dirty)
-    (commits : CommitsFew (shown_of_array slot a) (shown_with slot a.setup new sum (samples_held a.windows) (sample_of a.served) a.ended) 2) (powered : FitsSlots (slot (core_rack new)) new.meta) (synced : AreAllSynced new.meta (slot (core_rack new)))
+    (commits : CommitsFew (shown_of_array slot a) (shown_with slot a.setup new sum (samples_held a.windows) (sample_of a.served) a.ended) 2) (powered : FitsSlots (slot (core_rack new)) new.meta) (synced : AreSlotsSynced new.meta (slot (core_rack new)))
     (no_disk : a.core.meta.setup.geometry.disks ≤ d → new ≡ a.core)
     (out : (e : ℕ) → d < a.core.meta.setup.geometry.disks → named_out a.core.meta.out ≡ Some e → new ≡ a.core) where
   high : a.core.meta.setup.geometry.disks ≤ d → a.setup.geometry.disks ≤ d
@@ -322,7 +322,7 @@ module _ {R : Type 0} {g : _} (slot : R → ℕ → Slot) (a : Array R g) (new :
 
 -- one that is replaced
 module _ {R : Type 0} {g : _} (slot : R → ℕ → Slot) (a : Array R g) (new : Core R g) (sum : ℕ) (d : ℕ) (takes : Takes (shown_of_array slot a) (Replace d)) (same_setup : a.core.meta.setup ≡ a.setup) (energy : sum ≡ a.ledger.total)
-    (later : HaveNotFallen (slot (core_rack a.core)) (slot (core_rack new))) (writes : new.meta.writes ≡ a.core.meta.writes) (table : new.dirty ≡ a.core.dirty) (powered : FitsSlots (slot (core_rack new)) new.meta) (synced : AreAllSynced new.meta (slot (core_rack new)))
+    (later : HaveNotFallen (slot (core_rack a.core)) (slot (core_rack new))) (writes : new.meta.writes ≡ a.core.meta.writes) (table : new.dirty ≡ a.core.dirty) (powered : FitsSlots (slot (core_rack new)) new.meta) (synced : AreSlotsSynced new.meta (slot (core_rack new)))
     (no_disk : a.core.meta.setup.geometry.disks ≤ d → new ≡ a.core)
     (in_place : d < a.core.meta.setup.geometry.disks → named_out a.core.meta.out ≢ Some d → new ≡ a.core) where
   low_replace : d < a.core.meta.setup.geometry.disks → d < a.setup.geometry.disks
@@ -464,7 +464,7 @@ module _ {R : Type 0} {g : _} (slot : R → ℕ → Slot) (a : Array R g) (new :
     (later : HaveNotFallen (slot (core_rack a.core)) (slot (core_rack new))) (writes : new.meta.writes ≡ a.core.meta.writes) (x : ShiftOutcome)
     (energy : sum ≡ min (a.ledger.total + asked_energy a.setup a.core.meta.gear x) 18446744073709551615)
     (failed : named_out a.core.meta.out ≡ None → (d : ℕ) → named_out new.meta.out ≡ Some d → HasRisen (slot (core_rack a.core) d).faults (slot (core_rack new) d).faults)
-    (table : new.dirty ≡ a.core.dirty) (commits : CommitsFew (shown_of_array slot a) (shown_with slot a.setup new sum (samples_held a.windows) (sample_of a.served) a.ended) 2) (powered : FitsSlots (slot (core_rack new)) new.meta) (synced : AreAllSynced new.meta (slot (core_rack new))) where
+    (table : new.dirty ≡ a.core.dirty) (commits : CommitsFew (shown_of_array slot a) (shown_with slot a.setup new sum (samples_held a.windows) (sample_of a.served) a.ended) 2) (powered : FitsSlots (slot (core_rack new)) new.meta) (synced : AreSlotsSynced new.meta (slot (core_rack new))) where
   uses_nothing : asked_energy a.setup a.core.meta.gear x ≡ 0 → KeepsEnergy (shown_of_array slot a) (shown_with slot a.setup new sum (samples_held a.windows) (sample_of a.served) a.ended)
   uses_nothing none fits = energy ∙ ap (λ (n : ℕ). min (a.ledger.total + n) 18446744073709551615) none ∙ sym (by a.ledger.total fits)
     where

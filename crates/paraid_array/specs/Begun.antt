@@ -11,7 +11,7 @@ use Rattle.paraid_core.specs.Cores.{core_rack}
 use Rattle.paraid_recover.specs.Mount.{HasMounted}
 use Rattle.paraid_recover.specs.Mounted.{IsServable}
 use Rattle.paraid_session.specs.Mount.{IsMountedFromEach}
-use Rattle.paraid_session.specs.Powers.{AreAllSynced}
+use Rattle.paraid_session.specs.Powers.{AreSlotsSynced}
 use Rattle.paraid_session.specs.Turn.{Point}
 use Rattle.paraid_recover.specs.FirstPoint.{IsFirstPoint}
 use Rattle.paraid_txn.specs.Stores.{disks_of, epoch_of, named_of}
@@ -39,7 +39,7 @@ pub record IsMountedCore {R : Type 0} {g : _} (slot : R → ℕ → Slot) (told 
 pub record IsBegunCore {R : Type 0} {g : Ghosts R} (core : Core R g) : Type 0 where
   pub serving : IsCoreServing g.slot_count g.slot core
   pub nothing : core.batch ≡ []
-  pub synced : AreAllSynced core.meta (g.slot (core_rack core))
+  pub synced : AreSlotsSynced core.meta (g.slot (core_rack core))
   pub powered : IsPoweredBy
       (g.slot_count (core_rack core)) (g.slot (core_rack core)) (named_of core.store) core.meta
   pub known : IsOutKnown g.slot core

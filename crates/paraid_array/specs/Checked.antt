@@ -19,6 +19,7 @@ use Rattle.paraid_txn.specs.Stores.{named_of}
 use Rattle.paraid_scrub.specs.Cores.{HasMapBits, core_view, table_view}
 use Rattle.paraid_scrub.specs.Counts.{CountsByView}
 use Rattle.paraid_scrub.specs.declared.kind.CheckReport.{CheckReport}
+use Rattle.paraid_base.specs.Log.{epoch_limit}
 
 -- A check is a flush of a session: the answer to that, with so many writes.
 abbrev pub answer_to_check : ℕ → Result CheckReport Halt → Answer
@@ -60,7 +61,7 @@ pub record CanBeCounted {R : Type 0} {g : Ghosts R} (core : Core R g) : Type 0 w
   pub serves : CanCoreServe g.slot core
   pub fresh : (d : ℕ) → IsRebuilding core.meta d → (g.slot (core_rack core) d).power ≡ Spinning
   pub no_draft : core.draft ≡ []
-  pub epoch : core.meta.epoch < 2 ^ 63
+  pub epoch : core.meta.epoch < epoch_limit
   pub copies_synced : AreCopiesSynced core.meta.setup.geometry.disks core.copied
 
 -- So it serves on one commit later with nothing staged, and the commit names the disk that was out.

@@ -13,7 +13,7 @@ use Rattle.paraid_core.specs.Steps.{AreUnsyncedCopied}
 use Rattle.paraid_serve.specs.Causes.{Shown, Shows}
 use Rattle.paraid_base.specs.declared.fault.Halt.{Halt}
 use Rattle.paraid_serve.specs.Calls.{IsAbsentOut, IsNotDouble}
-use Rattle.paraid_session.specs.Powers.{AreAllSynced, FitsSlots}
+use Rattle.paraid_session.specs.Powers.{AreSlotsSynced, FitsSlots}
 use Rattle.paraid_session.specs.Turn.{Point}
 use Rattle.paraid_array.specs.declared.array.Array.{Array}
 use Rattle.paraid_array.specs.declared.ended.HaltedAt.{HaltedAt}
@@ -44,7 +44,7 @@ gear_going (Some ended) now e = let z : Some ended.halt ≡ None = e in absurd c
 -- synced
 pub all_synced : {R : Type 0} {g : _} (slot : R → ℕ → Slot) (core : Core R g)
     → AreCopiesSynced core.meta.setup.geometry.disks core.copied
-    → AreUnsyncedCopied slot core → AreAllSynced core.meta (slot (store_rack core.store))
+    → AreUnsyncedCopied slot core → AreSlotsSynced core.meta (slot (store_rack core.store))
 all_synced slot
     core copies unsynced d low not there = by (slot (store_rack core.store) d).unsynced refl
   where
@@ -57,7 +57,7 @@ all_synced slot
 -- its meta, and its disks are synced
 pub shown_as : {R : Type 0} {g : _} (slot : R → ℕ → Slot) (a : Array R g)
     → (halt_of_end a.ended ≡ None → FitsSlots (slot_of_array slot a) a.core.meta)
-    → (halt_of_end a.ended ≡ None → AreAllSynced a.core.meta (slot_of_array slot a))
+    → (halt_of_end a.ended ≡ None → AreSlotsSynced a.core.meta (slot_of_array slot a))
     → Shows (shown_of_array slot a) a.setup (slot_of_array slot a) (halt_of_end a.ended)
 shown_as slot a fits synced = record {
   setup = refl;

@@ -28,6 +28,14 @@ body_place k = 4 + k
 abbrev pub map_start : Geometry → ℕ
 map_start g = 100
 
+-- a plan of writes changes at most so many bits of the dirty map
+abbrev pub change_room : ℕ
+change_room = 16
+
+-- a commit has a lesser epoch; an array is worn long before
+abbrev pub epoch_limit : ℕ
+epoch_limit = 2 ^ 63
+
 -- the last place of the log
 abbrev pub log_last : ℕ
 log_last = 99

@@ -32,8 +32,9 @@ pub enum GeoFault {
     Disks { value: u8 },
     /// The number of rows is not 1 to 65,536.
     Rows { value: u32 },
-    /// The least member that is below 3, above the number of disks or not greater than the one
-    /// before it; or the length of the list where the last member is not the number of disks.
+    /// The place in the list of the first member that is below 3, above the number of disks or not
+    /// greater than the one before it; or the length of the list, where the last member is not the
+    /// number of disks.
     Gears { at: u8 },
 }
 
@@ -129,7 +130,7 @@ impl Geometry {
         a < 9 && self.gears[a as usize]
     }
 
-    /// The number of stripes of the soft region of gear `a`, 0 where `a` is the number of disks.
+    /// The number of stripes of the region of gear `a`, 0 where `a` is the number of disks.
     pub fn stripes(&self, a: u8) -> u32
         requires { IsGear self.now a }
         ensures { result ≡ stripe_count self.now.disks self.now.rows a }
@@ -137,7 +138,8 @@ impl Geometry {
         (self.rows * (self.disks - a) as u32 + (a as u32 - 2)) / (a as u32 - 1)
     }
 
-    /// The place where the soft region of gear `a` begins, after the regions of lower gears.
+    /// The place where the region of gear `a` begins, after the regions of lower gears. (So the
+    /// place of a stripe in it fits its type: the largest array needs 403,276 blocks a disk.)
     pub fn soft_start(&self, a: u8) -> u32
         requires { a ≤ 9 }
         ensures start { result ≡ soft_start_of self.now a }

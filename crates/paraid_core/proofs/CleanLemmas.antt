@@ -24,7 +24,7 @@ use Rattle.paraid_image.specs.Mark.{meta_with_lost}
 use Rattle.paraid_plan.specs.WriteTargets.{is_written, overlaid_blocks, soft_count, target_if}
 use Rattle.paraid_plan.specs.StoredCells.{IsUnitKept}
 use Rattle.paraid_plan.specs.StoredCells.IsUnitKept.{there, rebuilt}
-use Rattle.paraid_plan.specs.Units.{IsSameHeld, sync_targets}
+use Rattle.paraid_plan.specs.Units.{IsSameHeld, clean_targets}
 use Rattle.paraid_plan.proofs.LayLemmas.{cases_both, changed_at, changed_off}
 use Rattle.paraid_plan.proofs.SyncLemmas.{sync_bits, sync_final}
 use Rattle.paraid_rack.specs.declared.call.Call.{Call}
@@ -62,7 +62,7 @@ drafted a b c e r d p x map g none at first second third = rw (third, second, fi
 
 -- what is drafted, where no disk is out
 pub sync_drafted : (v : View) (r d : ℕ) (x map : Block) → named_out v.meta.out ≡ None → x ≡ value v r d
-    → (target d (hard_place_of v.meta.setup.geometry r), x) ∷ (target 0 (map_place_of v.meta.setup.geometry r), map) ∷ (target 1 (map_place_of v.meta.setup.geometry r), map) ∷ [] ≡ sync_targets v r d map
+    → (target d (hard_place_of v.meta.setup.geometry r), x) ∷ (target 0 (map_place_of v.meta.setup.geometry r), map) ∷ (target 1 (map_place_of v.meta.setup.geometry r), map) ∷ [] ≡ clean_targets v r d map
 sync_drafted v r d x map none is =
     let g = v.meta.setup.geometry in
     let unit : ℕ = g.rows + soft_count v.meta + r / 512 in
@@ -74,7 +74,7 @@ module _ (slots : ℕ) (named : Option ℕ) (m : Meta) (table table_then : List 
     (in_range : IsInRange m) (absent : (d : ℕ) → d < m.setup.geometry.disks → is_present (s.power d) ≡ false → named_out m.out ≡ Some d)
     (k : HoldsBetweenCalls slots named m table batch copied h lo s) (r d : ℕ) (lr : r < m.setup.geometry.rows) (ld : d < m.setup.geometry.disks) (rises : d < rising_to m.phase) (none : named_out m.out ≡ None) (map : Block)
     (turned : (q e : ℕ) → is_dirty table_then q e ≡ table_with_bit (is_dirty table) r d false q e) (shows : ShowsBits map (r / 512) (is_dirty table_then))
-    (draft_is : draft ≡ sync_targets (view_by m s.power (contents s batch)) r d map) (laid_same : (e p : ℕ) (x : Block) → overlaid_block batch_then e p x ≡ overlaid_block (batch ++ draft) e p x) (grows : length batch ≤ length batch_then) where
+    (draft_is : draft ≡ clean_targets (view_by m s.power (contents s batch)) r d map) (laid_same : (e p : ℕ) (x : Block) → overlaid_block batch_then e p x ≡ overlaid_block (batch ++ draft) e p x) (grows : length batch ≤ length batch_then) where
   abbrev f : Contents
   f = contents s batch
 
@@ -106,7 +106,7 @@ module _ (slots : ℕ) (named : Option ℕ) (m : Meta) (table table_then : List 
       let large = k.staged.kept.disks.fresh_large e count fresh in
       rw fresh.present (let l : p < s.size e = omega arith in grind (arith, nat_tests))
 
-  agree : (e u p : ℕ) → e < m.setup.geometry.disks → IsUnitKept s.power m (out_disk s.power m) e u → log_least ≤ p → p < disk_size m.setup.geometry → g e p ≡ overlaid_blocks (sync_targets v r d map) f e p
+  agree : (e u p : ℕ) → e < m.setup.geometry.disks → IsUnitKept s.power m (out_disk s.power m) e u → log_least ≤ p → p < disk_size m.setup.geometry → g e p ≡ overlaid_blocks (clean_targets v r d map) f e p
   agree e u p le at far near =
       ap (λ (z : Contents). z e p) (contents_laid s batch_then (batch ++ draft) laid_same)
       ∙ laid_there s batch draft e p (kept_place e u p le at near) far

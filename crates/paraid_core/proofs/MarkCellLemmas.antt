@@ -24,7 +24,7 @@ use Rattle.paraid_moves.proofs.ValuesLemmas.{soft_dirty, value_soft}
 use Rattle.paraid_plan.specs.WriteTargets.{hard_targets, is_written, map_targets, overlaid_blocks, soft_count, target_if}
 use Rattle.paraid_plan.specs.StoredCells.{IsUnitKept}
 use Rattle.paraid_plan.specs.StoredCells.IsUnitKept.{there, rebuilt}
-use Rattle.paraid_plan.specs.Units.{IsSameHeld, sync_targets}
+use Rattle.paraid_plan.specs.Units.{IsSameHeld, clean_targets}
 use Rattle.paraid_plan.proofs.LayLemmas.{cases_both, changed_at, changed_off, lay_at, lay_off, overlaid_blocks-append}
 use Rattle.paraid_plan.proofs.SyncLemmas.{sync_bits, sync_final}
 use Rattle.paraid_rack.specs.Disks.{Disks, is_present}
@@ -133,7 +133,7 @@ module _ (slots : ℕ) (named : Option ℕ) (m : Meta) (table table_then : List 
         | inr off ↦ lay_off (is_written m.out d r) d (hard_place_of m.setup.geometry r) (value v r d) f x q off
       ]
 
-  agree : (e u p : ℕ) → e < m.setup.geometry.disks → IsUnitKept s.power m (out_disk s.power m) e u → log_least ≤ p → p < disk_size m.setup.geometry → after e p ≡ overlaid_blocks (sync_targets v r d map) f e p
+  agree : (e u p : ℕ) → e < m.setup.geometry.disks → IsUnitKept s.power m (out_disk s.power m) e u → log_least ≤ p → p < disk_size m.setup.geometry → after e p ≡ overlaid_blocks (clean_targets v r d map) f e p
   agree e u p le at far near =
       ap (λ (z : Contents). z e p) (contents_laid s batch_then (batch ++ draft) laid_same)
       ∙ laid_there s batch draft e p (kept_place e u p le at near) far

@@ -34,7 +34,7 @@ pub record CanFillStripe {R : Type 0} {g : Ghosts R} (core : Core R g) (s : ℕ)
 
 -- The cell of row `r` and this disk can be copied to its hard place: it is dirty, the disk comes
 -- up, no disk is out, and nothing is staged.
-pub record CanSyncCell {R : Type 0} {g : Ghosts R} (core : Core R g) (r disk : ℕ) : Type 0 where
+pub record CanCopyCell {R : Type 0} {g : Ghosts R} (core : Core R g) (r disk : ℕ) : Type 0 where
   pub whole : core.meta.out ≡ No
   pub row : r < core.meta.setup.geometry.rows
   pub past_gear : core.meta.gear ≤ disk

@@ -17,6 +17,7 @@ use Rattle.paraid_core.specs.Cores.{CanCoreServe, CoreStandsFor, IsCoreHeld, IsC
 use Rattle.paraid_core.specs.Down.{IsDownAfter}
 use Rattle.paraid_core.specs.Lost.{MakesReads}
 use Rattle.paraid_core.specs.Steps.{AreUnsyncedCopied, IsHeldStill, StandsStill}
+use Rattle.paraid_base.specs.Log.{epoch_limit}
 
 -- It can be used, and cells can be read and written.
 pub record IsCoreInService {R : Type 0} {g : Ghosts R} (core : Core R g) : Type 0 where
@@ -25,7 +26,7 @@ pub record IsCoreInService {R : Type 0} {g : Ghosts R} (core : Core R g) : Type 
 
 -- A commit can follow: an epoch is left, and each copy is synced.
 pub record CanBeCommitted {R : Type 0} {g : Ghosts R} (core : Core R g) : Type 0 where
-  pub epoch : core.meta.epoch < 2 ^ 63
+  pub epoch : core.meta.epoch < epoch_limit
   pub copies_synced : AreCopiesSynced core.meta.setup.geometry.disks core.copied
 
 -- It can be used still, its array is as it was, and copies may be unsynced on the same disks. A

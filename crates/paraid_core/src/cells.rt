@@ -8,7 +8,7 @@ ghost use Rattle.paraid_rack.specs.Disks.{Disks};
 ghost use Rattle.paraid_record.specs.declared.meta.Meta.{Meta as MetaType};
 ghost use Rattle.paraid_core.specs.Lost.{CoreLosesDisk};
 ghost use Rattle.paraid_core.specs.Answers.{LosesGiven};
-ghost use Rattle.paraid_core.specs.Copying.{CanSyncCell, CopiesOrLoses, CopiesPastLog};
+ghost use Rattle.paraid_core.specs.Copying.{CanCopyCell, CopiesOrLoses, CopiesPastLog};
 ghost use Rattle.paraid_core.specs.Serving.{IsCoreInService};
 
 use crate::fill::mark;
@@ -25,7 +25,7 @@ impl<R: Rack> Core<R> {
     // disk was lost.
     fn write_cell(&mut self, r: Row, disk: DiskNo, block: &Block) -> Result<bool, Two>
         requires serving { IsCoreInService self.old }
-        requires cell { CanSyncCell self.old r disk }
+        requires cell { CanCopyCell self.old r disk }
         ensures copies { CopiesPastLog self.old self.new result }
         ensures held { (cells : ℕ → ℕ → Bool) → CopiesOrLoses self.old self.new result
             (λ h lo. CopyingCell R.slot_count self.old h lo cells r disk block.now)
@@ -45,10 +45,10 @@ impl<R: Rack> Core<R> {
     /// with one read of its value and one write. The cell stays dirty until it is marked.
     ///
     /// True once the cell is copied. False where a disk was lost: that disk is out from then on.
-    pub fn sync_cell(&mut self, r: Row, disk: DiskNo) -> Result<bool, Two>
+    pub fn copy_cell(&mut self, r: Row, disk: DiskNo) -> Result<bool, Two>
         requires serving { IsCoreInService self.old }
         requires no_draft { draft_of self.old ≡ [] }
-        requires cell { CanSyncCell self.old r disk }
+        requires cell { CanCopyCell self.old r disk }
         ensures copies { CopiesPastLog self.old self.new result }
         // The cells before it stay copied, and this one is.
         ensures held { (cells : ℕ → ℕ → Bool) → CopiesOrLoses self.old self.new result

@@ -11,10 +11,11 @@ ghost use Rattle.paraid_image.specs.Neutral.{names_place};
 ghost use Rattle.paraid_rack.specs.Told.{CrashTriple, Ran};
 ghost use Rattle.paraid_core.specs.Marking.{OnlyStages};
 ghost use Rattle.paraid_core.specs.Serving.{IsCoreInService};
+ghost use Rattle.paraid_base.specs.Log.{batch_room};
 
 use crate::staged::Core;
 use crate::take::take;
-use paraid_base::{Block, DiskNo, MAP_START, Row};
+use paraid_base::{BATCH_ROOM, Block, DiskNo, MAP_START, Row};
 use paraid_rack::Rack;
 use paraid_record::Target;
 use paraid_txn::Batch;
@@ -39,9 +40,9 @@ impl<R: Rack> Core<R> {
     pub fn has_map_room(&self, r: Row) -> bool
         ensures room { result ≡ true
             → HasRoomForMap (meta_of self.now).setup.geometry (batch_of self.now) r }
-        ensures few { length (batch_of self.now) ≤ 94 → result ≡ true }
+        ensures few { length (batch_of self.now) + 2 ≤ batch_room → result ≡ true }
     {
-        if self.batch.count() <= 94 {
+        if self.batch.count() as usize + 2 <= BATCH_ROOM {
             return true;
         }
         let place = MAP_START + r / 512;

@@ -101,7 +101,7 @@ fn gather_one<R: Rack>(
 }
 
 /// Reads the blocks of stripe `s` of gear `to`: the copies of its cells, zeros for its pads, and on
-/// its parity disk their XOR. It reads each cell once, and refuses where a disk has failed.
+/// its parity disk their XOR. It reads each cell once, and names a disk that has failed.
 pub(crate) fn gather<R: Rack>(
     store: &mut Store<R>,
     batch: &Batch,

@@ -114,8 +114,8 @@ fn is_passed(meta: &Meta, dirty: &DirtyTable, disk: DiskNo, number: u32, unit: R
     }
 }
 
-// Reads what a unit of the disk that is out stores, from the other disks. It refuses where one of
-// them has failed.
+// Reads what a unit of the disk that is out stores, from the other disks. It names one of them that
+// has failed.
 fn read_unit<R: Rack>(
     store: &mut Store<R>,
     batch: &Batch,

@@ -28,7 +28,7 @@ use Rattle.paraid_recover.proofs.DownLemmas.{watched_disks}
 use Rattle.paraid_event.proofs.ApartLemmas.{gone_not_fresh, no_one, tick_not_bad}
 use Rattle.paraid_event.specs.RebuildEnds.{MarksRejoined}
 use Rattle.paraid_event.specs.RebuildTicks.{CountsRebuild}
-use Rattle.paraid_session.specs.Ups.{up_count}
+use Rattle.paraid_session.specs.Ups.{spin_up_count}
 use Rattle.paraid_event.specs.Steps.{made_by, AreStepCalls}
 use Rattle.paraid_event.proofs.UsedLemmas.{counted_made}
 use Rattle.paraid_event.specs.Service.{IsStateOf, Service}
@@ -78,7 +78,7 @@ module _ (told : Option Trail) (k k1 : Service) (setup : Setup) (p : Point) (at 
   -- The event has ended: the disk is back.
   module _ (k2 : Service) (counts2 : CountsRebuild k k1 k2) (few_left : left ≤ setup.rate) (cs : List Call) (calls : AreStepCalls k1 p.history p.low bound p.meta w0 cs) (base : Meta) (brought2 : base.ticks ≡ k2.meta.ticks) (ended : IsEnded k1 k2 p.history p.low d base (watch_all cs w0))
       (none_out : k2.meta.out ≡ No) (state2 : IsStateOf k2 (record s1 { out = No }))
-      (used2 : (e : ℕ) → e < k1.meta.setup.geometry.disks → up_count e cs + made_by k1.meta p.disks.power e ≤ slice_index k2.meta.spins e) where
+      (used2 : (e : ℕ) → e < k1.meta.setup.geometry.disks → spin_up_count e cs + made_by k1.meta p.disks.power e ≤ slice_index k2.meta.spins e) where
     abbrev v : Watch
     v = watch_all cs w0
 

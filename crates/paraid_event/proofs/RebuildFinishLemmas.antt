@@ -37,7 +37,7 @@ use Rattle.paraid_event.specs.RebuildEnds.FinishesRebuild.{committing, copying}
 use Rattle.paraid_event.specs.RebuildEnds.LosesFinishing.{as_committed, as_copied}
 use Rattle.paraid_event.specs.RebuildEnds.ParksBack.{fails, parks, stays}
 use Rattle.paraid_event.specs.RebuildTicks.{CountsRebuild}
-use Rattle.paraid_session.specs.Ups.{up_count}
+use Rattle.paraid_session.specs.Ups.{spin_up_count}
 use Rattle.std.specs.Prelude.{slice_index}
 use Rattle.paraid_event.proofs.UpLemmas.{rest_made, up_append}
 use Rattle.paraid_event.specs.Service.{IsStateOf, Service}
@@ -138,7 +138,7 @@ record EndsIn (k k_then : Service) (h : History) (lo bound d : ℕ) (base : Meta
   room : base_then.epoch ≤ base.epoch + bound
   brought : base_then.ticks ≡ k_then.meta.ticks
   ended : IsEnded k k_then h lo d base_then (watch_all cs w)
-  used : (e : ℕ) → e < k.meta.setup.geometry.disks → up_count e cs + made_by k.meta w.disks.power e ≤ slice_index k_then.meta.spins e
+  used : (e : ℕ) → e < k.meta.setup.geometry.disks → spin_up_count e cs + made_by k.meta w.disks.power e ≤ slice_index k_then.meta.spins e
 
 abbrev EndsFrom : Service → Service → History → ℕ → ℕ → ℕ → Disks → List Call → Type 0
 EndsFrom k k_then h lo bound d s cs = (base : Meta) (w : Watch) → w.disks ≡ s → IsUnderway k h lo base w → named_out k.meta.out ≡ Some d → EndsIn k k_then h lo bound d base w cs
@@ -213,7 +213,7 @@ ends_parked k back k_then h lo most d done nothing none_out past_gear past_rise 
       used = λ e low.
           let a = goes.used e low in
           let f = up_append e cs (Park d done ∷ []) in
-          let z : up_count e (Park d done ∷ []) ≡ 0 = refl in
+          let z : spin_up_count e (Park d done ∷ []) ≡ 0 = refl in
           let l : slice_index k_then.meta.spins e ≡ slice_index back.meta.spins e = ap (λ (m : Meta). slice_index m.spins e) meta_is ∙ ap (λ (x : List ℕ). slice_index x e) (parked_spins d done back.meta) in
           omega (arith, a, f, z, l);
     })

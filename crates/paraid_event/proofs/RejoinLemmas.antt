@@ -32,7 +32,7 @@ use Rattle.paraid_event.proofs.ApartLemmas.{no_one, none_not_fresh}
 use Rattle.paraid_event.specs.Marks.{IsMarkedBy, ShowsMeta}
 use Rattle.paraid_event.specs.Parts.{AreEventCalls, BringsMeta, EndsEvent, committed_meta}
 use Rattle.paraid_event.specs.Parts.BringsMeta.{commit, nothing}
-use Rattle.paraid_session.specs.Ups.{up_count}
+use Rattle.paraid_session.specs.Ups.{spin_up_count}
 use Rattle.std.specs.Prelude.{slice_index}
 use Rattle.paraid_event.proofs.UpLemmas.{made_most, none_up, up_append}
 use Rattle.paraid_event.specs.Service.{Service}
@@ -90,7 +90,7 @@ pub record GoesBack (k back : Service) (h : History) (lo most d : ℕ) (base : M
   pub room : base_then.epoch ≤ base.epoch + most
   pub brought : base_then.ticks ≡ back.meta.ticks
   pub ends : IsBack back h lo d base_then (watch_all cs w)
-  pub used : (e : ℕ) → e < k.meta.setup.geometry.disks → up_count e cs + made_by k.meta w.disks.power e ≤ slice_index back.meta.spins e
+  pub used : (e : ℕ) → e < k.meta.setup.geometry.disks → spin_up_count e cs + made_by k.meta w.disks.power e ≤ slice_index back.meta.spins e
 
 -- so do others before them
 pub back_after : (i k back : Service) (h : History) (lo most more d : ℕ) (base : Meta) (w : Watch) (cs ds : List Call) (first : GoesInSteps i k h lo most (IsUnderway k h lo) base w cs) → GoesBack k back h lo more d first.base_then (watch_all cs w) ds

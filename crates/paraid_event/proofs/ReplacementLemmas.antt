@@ -44,7 +44,7 @@ use Rattle.paraid_event.specs.Lost.{TellsTwo}
 use Rattle.paraid_event.specs.Marks.{ArePoweredByGear, IsMarkedBy, ShowsMeta}
 use Rattle.paraid_event.specs.Parts.{AreEventCalls, EndsEvent, committed_meta}
 use Rattle.paraid_event.specs.Replacements.{CommitsAll, MarksReplaced, with_fresh}
-use Rattle.paraid_session.specs.Ups.{up_count}
+use Rattle.paraid_session.specs.Ups.{spin_up_count}
 use Rattle.paraid_event.proofs.UpLemmas.{up_append}
 use Rattle.paraid_event.proofs.UsedLemmas.{part_ups}
 use Rattle.paraid_event.specs.Service.{IsStateOf, Service}
@@ -386,7 +386,7 @@ module _ (told : Option Trail) (k : Service) (setup : Setup) (p : Point) (at : S
             commits.copies_synced setup2 failed_shown failed_powered state2 (commits.energy ∙ ap (λ (z : Service). z.energy) marks.mark) slots2
             (each_append (HoldsWhileServing k.slots p.history p.low b) (IsAllowed setup (Some d)) w0 cs (attach false ∷ []) each1 (attached_each false held))
             (let a = attach_after cs (attach false ∷ []) (part_attaches k1 p.history p.low p.meta w0 mid1 cs part) in omega (arith, a))
-            (λ e. let a = up_append e cs (attach false ∷ []) in let x = part_ups k1 p.history p.low p.meta w0 mid1 cs part e in let z : up_count e (attach false ∷ []) ≡ 0 = refl in omega (arith, a, x, z))
+            (λ e. let a = up_append e cs (attach false ∷ []) in let x = part_ups k1 p.history p.low p.meta w0 mid1 cs part e in let z : spin_up_count e (attach false ∷ []) ≡ 0 = refl in omega (arith, a, x, z))
             (first_append cs (attach false ∷ []) none_lost)
             (ap (λ (m : Meta). m.ticks) base2 ∙ sym (same_ticks v1.disks.power k1.meta k2.meta marks2)) (inl base_out) told_then tells
 
@@ -442,12 +442,12 @@ module _ (told : Option Trail) (k : Service) (setup : Setup) (p : Point) (at : S
             let c = part_attaches k3 p.history p.low ends.keeps.base v2 mid3 ds part3 in
             omega (arith, a, c)
 
-        all_up : (ds : List Call) → AreEventCalls k3 p.history p.low ends.keeps.base v2.disks ds → (e : ℕ) → up_count e (cs ++ (attach true ∷ ds)) ≡ 0
+        all_up : (ds : List Call) → AreEventCalls k3 p.history p.low ends.keeps.base v2.disks ds → (e : ℕ) → spin_up_count e (cs ++ (attach true ∷ ds)) ≡ 0
         all_up ds part3 e =
             let a = up_append e cs (attach true ∷ ds) in
             let x = part_ups k1 p.history p.low p.meta w0 mid1 cs part e in
             let y = part_ups k3 p.history p.low ends.keeps.base v2 mid3 ds part3 e in
-            let z : up_count e (attach true ∷ ds) ≡ 0 + up_count e ds = refl in
+            let z : spin_up_count e (attach true ∷ ds) ≡ 0 + spin_up_count e ds = refl in
             omega (arith, a, x, y, z)
 
         -- a second disk is lost in the commit of the fresh one

@@ -34,7 +34,7 @@ use Rattle.paraid_session.specs.Resting.{watch_at}
 use Rattle.paraid_recover.proofs.DownLemmas.{watched_disks}
 use Rattle.paraid_event.proofs.ApartLemmas.{no_one, replace_not_bad}
 use Rattle.paraid_event.specs.Marks.{ArePoweredByGear, ShowsMeta}
-use Rattle.paraid_session.specs.Ups.{up_count}
+use Rattle.paraid_session.specs.Ups.{spin_up_count}
 use Rattle.paraid_event.specs.Service.{IsStateOf, Service}
 use Rattle.paraid_image.specs.Lost.{EndsBySecond}
 use Rattle.paraid_event.specs.Stands.{IsMidway, StandsAt, StandsIn}
@@ -79,7 +79,7 @@ module _ (told : Option Trail) (k : Service) (setup : Setup) (p : Point) (at : S
   -- The event is answered, and the array stands after it.
   module _ (fresh_came : Bool) (kf : Service) (base : Meta) (all : List Call) (vf : Watch) (watched_all : watch_all all w0 ≡ vf) (mid : IsMidway kf p.history p.low base vf) (is_only : IsOnly (Some d) vf.down) (copies : AreCopiesSynced kf.meta.setup.geometry.disks kf.copied)
       (setup_is : kf.meta.setup ≡ setup) (shown : ShowsMeta vf.disks.power base kf.meta) (powered : ArePoweredByGear vf.disks.power kf.meta) (state : IsStateOf kf (state_of p.state d fresh_came))
-      (energy : kf.energy ≡ k.energy) (slots : kf.slots ≡ k.slots) (each : Held w0 all) (one : attach_count all ≡ 1) (none_up : (e : ℕ) → up_count e all ≡ 0) (loss : first_lost all ≡ loss_of d fresh_came)
+      (energy : kf.energy ≡ k.energy) (slots : kf.slots ≡ k.slots) (each : Held w0 all) (one : attach_count all ≡ 1) (none_up : (e : ℕ) → spin_up_count e all ≡ 0) (loss : first_lost all ≡ loss_of d fresh_came)
       (brought : base.ticks ≡ kf.meta.ticks) (names : (base.out ≡ Gone d) ⊎ (base.out ≡ Fresh d 0)) where
     abbrev answer : Answer
     answer = answer_of d fresh_came

@@ -22,7 +22,7 @@ use Rattle.paraid_event.proofs.ApartLemmas.{no_one}
 use Rattle.paraid_event.specs.Lost.{TellsTwo}
 use Rattle.paraid_event.specs.Marks.{ArePoweredByGear, IsMarkedBy, ShowsMeta}
 use Rattle.paraid_event.specs.Parts.{AreEventCalls, EndsEvent, LosesInEvent}
-use Rattle.paraid_session.specs.Ups.{up_count}
+use Rattle.paraid_session.specs.Ups.{spin_up_count}
 use Rattle.paraid_event.proofs.UpLemmas.{up_append}
 use Rattle.paraid_event.proofs.UsedLemmas.{part_used}
 use Rattle.paraid_record.specs.declared.meta.Setup.{Setup}
@@ -134,7 +134,7 @@ module _ (k j : Service) (h : History) (lo most more : ℕ) (Mid : Meta → Watc
         | inr lost ↦ inr (by_first e is lost (first_lost cs) refl)
       ];
       awaited = ap (λ (z : Watch). z.awaited) (watch_append cs ds w) ∙ second.leaves.awaited ∙ first.leaves.awaited;
-      used = λ d low. subst (λ (z : Watch). up_count d (cs ++ ds) + made_by k.meta w.disks.power d ≤ made_by k_then.meta z.disks.power d) (sym (watch_append cs ds w))
+      used = λ d low. subst (λ (z : Watch). spin_up_count d (cs ++ ds) + made_by k.meta w.disks.power d ≤ made_by k_then.meta z.disks.power d) (sym (watch_append cs ds w))
           (let a = first.leaves.used d low in let b = second.leaves.used d (subst (λ (z : Setup). d < z.geometry.disks) (sym first.leaves.setup) low) in let e = up_append d cs ds in omega (arith, a, b, e));
     };
     base_then = second.base_then;

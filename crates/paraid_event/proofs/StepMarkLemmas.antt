@@ -23,7 +23,7 @@ use Rattle.paraid_event.specs.Lost.{TellsTwo}
 use Rattle.paraid_event.specs.Marks.{ArePoweredByGear, IsMarkedBy, ShowsMeta}
 use Rattle.paraid_event.specs.Parts.{AreEventCalls, EndsEvent, LosesInEvent, committed_meta}
 use Rattle.paraid_event.specs.Powering.{AreDisksPowered, EndsPowered}
-use Rattle.paraid_session.specs.Ups.{up_count}
+use Rattle.paraid_session.specs.Ups.{spin_up_count}
 use Rattle.paraid_event.proofs.UsedLemmas.{mark_used, power_used}
 use Rattle.paraid_event.specs.Service.{Service}
 use Rattle.paraid_event.specs.Stands.{IsMidway, ServiceStandsFor}
@@ -161,7 +161,7 @@ cells_after i k j meta slots named h lo most base w cs goes keeps = record {
     still = λ e is. ap (λ (m : Meta). named_out m.out) meta ∙ goes.leaves.still e is;
     newly = λ e is. goes.leaves.newly e (ap (λ (m : Meta). named_out m.out) (sym meta) ∙ is);
     awaited = goes.leaves.awaited;
-    used = λ d low. subst (λ (m : Meta). up_count d cs + made_by i.meta w.disks.power d ≤ made_by m (watch_all cs w).disks.power d) (sym meta) (goes.leaves.used d low);
+    used = λ d low. subst (λ (m : Meta). spin_up_count d cs + made_by i.meta w.disks.power d ≤ made_by m (watch_all cs w).disks.power d) (sym meta) (goes.leaves.used d low);
   };
   base_then = goes.base_then;
   room = goes.room;

@@ -19,7 +19,7 @@ use Rattle.paraid_record.specs.declared.meta.Setup.{Setup}
 use Rattle.paraid_image.specs.Spins.{made_spin_ups}
 use Rattle.paraid_core.specs.Calls.{IsTransferCall}
 use Rattle.paraid_recover.specs.Powers.{IsPowerCall}
-use Rattle.paraid_session.specs.Ups.{up_count, ups_by}
+use Rattle.paraid_session.specs.Ups.{spin_up_count, spin_ups_by}
 use Rattle.paraid_txn.specs.Uses.{EachCall}
 use Rattle.paraid_rack.specs.Calls.{IsTransfer}
 use Rattle.paraid_session.specs.Turn.{Point}
@@ -30,11 +30,11 @@ use Rattle.paraid_event.specs.Steps.{made_by}
 use Rattle.paraid_event.proofs.ApartLemmas.{no_one}
 
 -- the spin-ups of calls and of others after them
-pub up_append : (d : ℕ) (cs ds : List Call) → up_count d (cs ++ ds) ≡ up_count d cs + up_count d ds
+pub up_append : (d : ℕ) (cs ds : List Call) → spin_up_count d (cs ++ ds) ≡ spin_up_count d cs + spin_up_count d ds
 up_append d [] ds = omega arith
 up_append d (c ∷ cs) ds = let e = up_append d cs ds in omega (arith, e)
 
-transfer_ups : (d : ℕ) (c : Call) → IsTransfer c → ups_by d c ≡ 0
+transfer_ups : (d : ℕ) (c : Call) → IsTransfer c → spin_ups_by d c ≡ 0
 transfer_ups d (Read e p done) is = refl
 transfer_ups d (Write e p b done) is = refl
 transfer_ups d (Sync e done) is = refl
@@ -43,7 +43,7 @@ transfer_ups d (SpinUp e done) is = absurd is
 transfer_ups d (Attach e size done) is = absurd is
 
 -- calls of a commit, or between two, make none
-pub none_up : (n : ℕ) (o : Option ℕ) (s : Disks) (cs : List Call) (d : ℕ) → EachCall (IsTransferCall n o) s cs → up_count d cs ≡ 0
+pub none_up : (n : ℕ) (o : Option ℕ) (s : Disks) (cs : List Call) (d : ℕ) → EachCall (IsTransferCall n o) s cs → spin_up_count d cs ≡ 0
 none_up n o s [] d each = refl
 none_up n o s (c ∷ cs) d each = let a = transfer_ups d c each.1.2 in let b = none_up n o (step c s) cs d each.2 in omega (arith, a, b)
 
@@ -105,7 +105,7 @@ same_used : (m : Meta) (p v : ℕ → Power) (d : ℕ) → v d ≡ p d → made_
 same_used m p v d same = used_later m p v d (λ here. same)
 
 step_used : (m : Meta) → ((d : ℕ) → m.gear ≤ d → d < rising_to m.phase → 1 ≤ slice_index m.spins d) → (s : Disks) (c : Call) (d : ℕ) → IsLawful s c → IsPowerCall m c
-    → ups_by d c + made_spin_ups m s.power d ≤ made_spin_ups m (step c s).power d
+    → spin_ups_by d c + made_spin_ups m s.power d ≤ made_spin_ups m (step c s).power d
 unfolding step
 step_used m has s (Read e p done) d lawful is = absurd is
 step_used m has s (Write e p b done) d lawful is = absurd is
@@ -136,11 +136,11 @@ step_used m has s (SpinUp e done) d lawful is = elim (cases_eq d e) [
 step_used m has s (Attach e size done) d lawful is = absurd is
 
 pub raised_used : (m : Meta) → ((d : ℕ) → m.gear ≤ d → d < rising_to m.phase → 1 ≤ slice_index m.spins d) → (s : Disks) (cs : List Call) (d : ℕ) → EachCall (IsPowerCall m) s cs
-    → up_count d cs + made_spin_ups m s.power d ≤ made_spin_ups m (run s cs).power d
+    → spin_up_count d cs + made_spin_ups m s.power d ≤ made_spin_ups m (run s cs).power d
 raised_used m has s [] d each = omega arith
 raised_used m has s (c ∷ cs) d each = let a = step_used m has s c d each.0 each.1 in let b = raised_used m has (step c s) cs d each.2 in omega (arith, a, b)
 
-power_ups : (m : Meta) (c : Call) (d : ℕ) → named_out m.out ≡ Some d → IsPowerCall m c → ups_by d c ≡ 0
+power_ups : (m : Meta) (c : Call) (d : ℕ) → named_out m.out ≡ Some d → IsPowerCall m c → spin_ups_by d c ≡ 0
 power_ups m (Read e p done) d named is = absurd is
 power_ups m (Write e p b done) d named is = absurd is
 power_ups m (Sync e done) d named is = absurd is
@@ -152,7 +152,7 @@ power_ups m (SpinUp e done) d named is = elim (cases_eq d e) [
 power_ups m (Attach e size done) d named is = absurd is
 
 -- a disk that is named out is not spun up
-pub none_raised : (m : Meta) (s : Disks) (cs : List Call) (d : ℕ) → named_out m.out ≡ Some d → EachCall (IsPowerCall m) s cs → up_count d cs ≡ 0
+pub none_raised : (m : Meta) (s : Disks) (cs : List Call) (d : ℕ) → named_out m.out ≡ Some d → EachCall (IsPowerCall m) s cs → spin_up_count d cs ≡ 0
 none_raised m s [] d named each = refl
 none_raised m s (c ∷ cs) d named each = let a = power_ups m c d named each.1 in let b = none_raised m (step c s) cs d named each.2 in omega (arith, a, b)
 

@@ -16,7 +16,7 @@ use Rattle.paraid_image.specs.Spins.{made_spin_ups}
 use Rattle.paraid_recover.specs.Powers.{IsPowerCall}
 use Rattle.paraid_recover.proofs.DownLemmas.{watched_disks}
 use Rattle.paraid_session.specs.Turn.{Point}
-use Rattle.paraid_session.specs.Ups.{up_count}
+use Rattle.paraid_session.specs.Ups.{spin_up_count}
 use Rattle.paraid_session.specs.Watch.{Watch, watch_all}
 use Rattle.paraid_txn.specs.Uses.{EachCall}
 use Rattle.paraid_event.specs.Marks.{IsMarkedBy, ShowsMeta}
@@ -31,12 +31,12 @@ use Rattle.paraid_event.proofs.PartLemmas.{part_calls, part_marks}
 use Rattle.paraid_event.proofs.UpLemmas.{made_step, none_raised, none_up, raised_used, rest_used, stands_made, used_later, used_least}
 
 module _ (k : Service) (h : History) (lo : ℕ) (base : Meta) (w : Watch) (at : IsMidway k h lo base w) (cs : List Call) (part : AreEventCalls k h lo base w.disks cs) where
-  pub part_ups : (d : ℕ) → up_count d cs ≡ 0
+  pub part_ups : (d : ℕ) → spin_up_count d cs ≡ 0
   part_ups d = none_up k.meta.setup.geometry.disks (gone_out k.meta.out) w.disks cs d (part_calls k h lo base w at cs part)
 
   -- one call of a core
   pub part_used : (k_then : Service) (h_then : History) (lo_then : ℕ) (ends : EndsEvent k k_then h_then lo_then w.disks cs) (d : ℕ)
-      → up_count d cs + made_by k.meta w.disks.power d ≤ made_by k_then.meta (watch_all cs w).disks.power d
+      → spin_up_count d cs + made_by k.meta w.disks.power d ≤ made_by k_then.meta (watch_all cs w).disks.power d
   part_used k_then h_then lo_then ends d =
       let v = (watch_all cs w).disks.power in
       let marks = part_marks k h lo base w at cs part k_then h_then lo_then ends in
@@ -44,7 +44,7 @@ module _ (k : Service) (h : History) (lo : ℕ) (base : Meta) (w : Watch) (at : 
       let same = marked_used v k.meta k_then.meta marks v d in
       let equal = ap (λ (l : List ℕ). slice_index l d) (same_spins v k.meta k_then.meta marks) in
       let later = used_later k.meta w.disks.power v d (λ here. (end_follows k k_then h h_then lo lo_then base w at.stands cs (part_calls k h lo base w at cs part)).power d here) in
-      made_step (up_count d cs) k.meta k_then.meta w.disks.power v d (λ gone. (still_gone v k.meta k_then.meta marks d gone, none)) (omega (arith, equal)) (omega (arith, none, same, later))
+      made_step (spin_up_count d cs) k.meta k_then.meta w.disks.power v d (λ gone. (still_gone v k.meta k_then.meta marks d gone, none)) (omega (arith, equal)) (omega (arith, none, same, later))
 
 rising_same : (b : Bool) (phase : Phase) → rising_to (phase_beside b phase) ≡ rising_to phase
 rising_same b Steady = refl
@@ -54,13 +54,13 @@ rising_same b (Up to) = refl
 
 -- disks that are powered, where what stands has recorded each spin-up
 pub power_used : (k : Service) (base : Meta) (w : Watch) → ShowsMeta w.disks.power base k.meta → ((d : ℕ) → base.gear ≤ d → d < rising_to base.phase → 1 ≤ slice_index base.spins d) → (cs : List Call) → EachCall (IsPowerCall k.meta) w.disks cs
-    → (k_then : Service) → IsMarkedBy (watch_all cs w).disks.power k.meta k_then.meta → (d : ℕ) → up_count d cs + made_by k.meta w.disks.power d ≤ made_by k_then.meta (watch_all cs w).disks.power d
+    → (k_then : Service) → IsMarkedBy (watch_all cs w).disks.power k.meta k_then.meta → (d : ℕ) → spin_up_count d cs + made_by k.meta w.disks.power d ≤ made_by k_then.meta (watch_all cs w).disks.power d
 power_used k base w shows has cs each k_then marks d =
     let v = (watch_all cs w).disks.power in
     let same = marked_used v k.meta k_then.meta marks v d in
     let equal = ap (λ (l : List ℕ). slice_index l d) (same_spins v k.meta k_then.meta marks) in
-    let more = subst (λ (s : Disks). up_count d cs + made_spin_ups k.meta w.disks.power d ≤ made_spin_ups k.meta s.power d) (sym (watched_disks w cs)) (raised_used k.meta has_now w.disks cs d each) in
-    made_step (up_count d cs) k.meta k_then.meta w.disks.power v d
+    let more = subst (λ (s : Disks). spin_up_count d cs + made_spin_ups k.meta w.disks.power d ≤ made_spin_ups k.meta s.power d) (sym (watched_disks w cs)) (raised_used k.meta has_now w.disks cs d each) in
+    made_step (spin_up_count d cs) k.meta k_then.meta w.disks.power v d
     (λ gone. (still_gone v k.meta k_then.meta marks d gone, none_raised k.meta w.disks cs d (gone_is_named k.meta.out d gone) each)) (omega (arith, equal)) (omega (arith, same, more))
   where
     has_now : (e : ℕ) → k.meta.gear ≤ e → e < rising_to k.meta.phase → 1 ≤ slice_index k.meta.spins e

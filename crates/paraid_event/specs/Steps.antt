@@ -11,7 +11,7 @@ use Rattle.paraid_rack.specs.Trail.{run}
 use Rattle.paraid_record.specs.declared.meta.Meta.{Meta}
 use Rattle.paraid_image.specs.Power.{power_by_gear}
 use Rattle.paraid_image.specs.Spins.{made_spin_ups}
-use Rattle.paraid_session.specs.Ups.{up_count}
+use Rattle.paraid_session.specs.Ups.{spin_up_count}
 use Rattle.paraid_session.specs.Watch.{Bounds, Down, Each, HoldsWhileServing, IsAllowed, Watch, attach_count, fails_on, first_lost, nobody, only, several, watch_all}
 use Rattle.paraid_event.specs.Lost.{TellsTwo}
 use Rattle.paraid_event.specs.Marks.{ArePoweredByGear, ShowsMeta}
@@ -75,7 +75,7 @@ pub record LeavesService (k k_then : Service) (w : Watch) (cs : List Call) : Typ
   pub newly : (e : ℕ) → named_out k_then.meta.out ≡ Some e
       → (named_out k.meta.out ≡ Some e) ⊎ (first_lost cs ≡ Some e)
   pub awaited : (watch_all cs w).awaited ≡ w.awaited
-  pub used : (d : ℕ) → d < k.meta.setup.geometry.disks → up_count d cs
+  pub used : (d : ℕ) → d < k.meta.setup.geometry.disks → spin_up_count d cs
       + made_by k.meta w.disks.power d ≤ made_by k_then.meta (watch_all cs w).disks.power d
 
 -- Parts of an event go from a watch on under `base` to a meta that stands then, at most so many

@@ -1,4 +1,5 @@
-//! What the samples ask for: to stay, or to shift up or down.
+//! A decision: to stay, or to shift up or down.
+
 /// What the samples ask for.
 #[derive(Clone, Copy)]
 pub enum Decision {

@@ -12,8 +12,9 @@ use Rattle.paraid_record.specs.Meta.{meta_bytes}
 use Rattle.paraid_record.specs.Range.{IsInRange}
 use Rattle.paraid_image.specs.Sides.{is_open}
 
--- Every disk spins and is large enough, both log disks say by a closed gate that nothing was
--- written in the highest gear, all blocks past the log are zeros, and nothing is loose.
+-- Every disk spins and is large enough. Both log disks say, by a closed gate, that the array is in
+-- its highest gear and holds no write. No witness is open, all blocks past the log are zeros, and
+-- nothing is loose.
 pub record IsFormatted (slots : ℕ) (s : Disks) (m : Meta) : Type 0 where
   pub in_range : IsInRange m
   pub writes : m.writes ≡ 0

@@ -36,8 +36,8 @@ abbrev pub gone_of : Option ℕ → Out
 gone_of None = No
 gone_of (Some d) = Gone d
 
--- the disk that is out, where `lost` is an absent slot and `m` may name one out already; a disk
--- that was being rebuilt and is absent is gone again
+-- what is out, where a meta says this and `lost` is the least absent slot; a disk that was being
+-- rebuilt and is absent is gone again
 abbrev pub out_after : Out → (ℕ → Power) → Option ℕ → Out
 out_after No power lost = gone_of lost
 out_after (Gone d) power lost = Gone d

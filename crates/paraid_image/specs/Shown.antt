@@ -1,5 +1,4 @@
--- What an event adds to the history and to the writes that are kept, and when a state shows
--- another.
+-- How many writes are kept after an answer, and when a state shows another.
 use Rattle.std.specs.Prelude.{◌≡◌, ℕ, nat_lt, [], if◌then◌else◌}
 use Rattle.paraid_base.specs.declared.event.Answer.{Answer}
 use Rattle.paraid_base.specs.declared.event.Answer.TheVariants.{Flushed}

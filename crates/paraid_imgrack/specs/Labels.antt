@@ -50,8 +50,8 @@ pub record IsUnheardOf (i : Identity) (l : Label) (slot e : ℕ) : Type 0 where
 
 -- Label l of a slot says that the others were told its generation, and that disk e had it, or a
 -- later one, by then; and label m of disk e does not know it: the two images are of different
--- times. A disk past the slot is told after label l is written, so it counts only where m is of a later
--- generation than l knows.
+-- times. A disk past the slot is told after label l is written, so it counts only where m is of a
+-- later generation than l knows.
 pub record IsOfAnotherTime (l m : Label) (slot e : ℕ) : Type 0 where
   pub low : slot < 8
   pub told : slice_index l.known slot ≡ l.generation

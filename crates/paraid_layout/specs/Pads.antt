@@ -1,4 +1,4 @@
--- The indexes of soft stripes that no cell has
+-- The indexes of stripes that no cell has
 use Rattle.std.specs.Prelude.{ℕ, ◌-◌, ◌*◌, ◌≤◌}
 use Rattle.paraid_base.specs.Soft.{number_at}
 

@@ -20,7 +20,7 @@ pub(crate) fn index_of_disk(p: DiskNo, d: DiskNo) -> u8
     if d < p { d } else { d - 1 }
 }
 
-/// The index of disk `disk`, from 0, among the disks of a soft stripe but its parity disk. The
+/// The index of disk `disk`, from 0, among the disks of a stripe of copies but its parity disk. The
 /// stripe is one of gear `gear`, so it lies on the disks below that.
 pub fn index_among(parity: DiskNo, disk: DiskNo, gear: u8) -> u8
     requires apart { disk ≢ parity }

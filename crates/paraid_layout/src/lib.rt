@@ -1,7 +1,7 @@
 //! Where each block, each cell, each copy and each part of a disk lies.
 //!
 //! A row has one cell on each disk, one of them its parity. In a gear the cells of the disks
-//! from the gear on have copies in soft stripes on the disks below it. Every answer is the
+//! from the gear on have copies in stripes on the disks below it. Every answer is the
 //! value that the definitions of `paraid_base` give, and says with it that the way back leads
 //! to the same block or cell; `laws` says that no two things lie in one place.
 #![tactic(auto)]

@@ -1,7 +1,7 @@
 //! The place on its disk of each hard block and of each copy.
 //!
 //! A disk begins with the gate, the metas and the log at places 0 to 99. Then come the dirty
-//! map, the hard blocks and the soft regions of the gears in ascending order.
+//! map, the blocks of the rows and the regions of the gears in ascending order.
 ghost use Rattle.std.specs.Prelude.{◌≡◌, ◌+◌, ◌<◌, ◌≤◌};
 ghost use Rattle.paraid_base.specs.Log.{map_start};
 ghost use Rattle.paraid_base.specs.Regions.{IsGear, disk_size, hard_place_of, map_count, soft_place_of};
@@ -19,7 +19,7 @@ pub fn hard_place(g: &Geometry, r: Row) -> Place
     g.map_start() + g.map_blocks() + r
 }
 
-/// The place of soft stripe `s` of gear `a` on each disk below `a`.
+/// The place of stripe `s` of gear `a` on each disk below `a`.
 pub fn soft_place(g: &Geometry, a: u8, s: u32) -> Place
     requires gear { IsGear g.now a }
     requires region { a < g.now.disks }

@@ -1,4 +1,4 @@
-//! The soft stripes of a gear: where the cells of its parked disks have their copies.
+//! The stripes of a gear: where the cells of its parked disks have their copies.
 ghost use Rattle.std.specs.Prelude.{◌≡◌, ◌≢◌, ◌-◌, ◌*◌, ◌<◌, ◌≤◌, IfSome, MatchOption};
 ghost use Rattle.paraid_base.specs.Regions.{IsGear};
 ghost use Rattle.paraid_base.specs.Skips.{index_among, skip};
@@ -16,7 +16,7 @@ fn stripe_parity(a: u8, s: u32) -> DiskNo
     a - 1 - (s % a as u32) as u8
 }
 
-/// The disk that holds the parity of soft stripe `s` of gear `a`, one of the disks below `a`.
+/// The disk that holds the parity of stripe `s` of gear `a`, one of the disks below `a`.
 pub fn soft_parity(g: &Geometry, a: u8, s: u32) -> DiskNo
     requires gear { IsGear g.now a }
     requires region { a < g.now.disks }
@@ -27,7 +27,7 @@ pub fn soft_parity(g: &Geometry, a: u8, s: u32) -> DiskNo
     stripe_parity(a, s)
 }
 
-/// The soft stripe of cell `(r, d)` in gear `a`, and the disk below `a` with its copy.
+/// The stripe of cell `(r, d)` in gear `a`, and the disk below `a` with its copy.
 pub fn soft_of(g: &Geometry, a: u8, r: Row, d: DiskNo) -> (u32, DiskNo)
     requires gear { IsGear g.now a }
     requires parked { a ≤ d }
@@ -52,7 +52,7 @@ pub fn soft_of(g: &Geometry, a: u8, r: Row, d: DiskNo) -> (u32, DiskNo)
     (s, disk_of_index(stripe_parity(a, s), i))
 }
 
-/// The cell whose copy is at index `i` of soft stripe `s` of gear `a`, or None for a pad.
+/// The cell whose copy is at index `i` of stripe `s` of gear `a`, or None for a pad.
 pub fn cell_at(g: &Geometry, a: u8, s: u32, i: u8) -> Option<(Row, DiskNo)>
     requires gear { IsGear g.now a }
     requires region { a < g.now.disks }

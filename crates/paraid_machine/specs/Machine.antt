@@ -185,7 +185,7 @@ report_quietly loss s event = quietly loss (report s 0 event).0 s
 -- a tick that decides to shift down, unless a disk's spins forbid it
 abbrev pub shift_down : Setup → Option ℕ → PowerState → ℕ → Option ℕ → Outcomes
 shift_down setup loss s to None = begin_by_tick loss (begun_down to s) to
-shift_down setup loss s to (Some worn) = report_quietly loss s (Ration worn)
+shift_down setup loss s to (Some d) = report_quietly loss s (Ration d)
 
 -- a tick by its decision
 abbrev pub decide : Setup → Option ℕ → PowerState → Decision → Outcomes

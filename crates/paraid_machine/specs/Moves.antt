@@ -135,7 +135,7 @@ state_with_tick s = record s {
   served = 0;
 }
 
--- the first disk from `to` to the gear that has used up its allowance
+-- the first of disks `to` to `gear - 1` that has used up its allowance
 abbrev pub first_used_up : Setup → PowerState → ℕ → Option ℕ
 first_used_up setup s to =
     first_from (λ d. nat_le (allowed_by setup s.ticks) (slice_index s.spins d)) to (s.gear - to)

@@ -1,7 +1,7 @@
 //! What lies between two commits: copies into free places, and the calls that leave them.
 //!
-//! `HoldsWithCopies slots m f h lo s` says that meta `m` stands by closed gates, and that the blocks
-//! past the log are `f` but for free places, so that they hold the history.
+//! `HoldsWithCopies slots m f h lo s` says that meta `m` stands by closed gates, and that the
+//! blocks past the log are `f` but for free places, so that they hold the history.
 ghost use Rattle.std.specs.Prelude.{◌≡◌, ◌≢◌, ℕ, ◌+◌, ◌<◌, ◌≤◌, ◌⊎◌, Bool, true, false, [], Some, None};
 ghost use Rattle.paraid_base.specs.declared.block.Block.{Block as BlockType};
 ghost use Rattle.paraid_base.specs.declared.state.Out.TheVariants.{Gone, Fresh};

@@ -16,7 +16,7 @@ use Rattle.paraid_base.proofs.RegionsLemmas.{hard_place_below, soft_place_below}
 use Rattle.paraid_base.proofs.SoftLemmas.{soft_disk_below, soft_parity_disk_below, soft_stripe_below}
 use Rattle.paraid_plan.specs.Placed.{ArePlaced, IsPlaced}
 use Rattle.paraid_plan.specs.WriteTargets.{cell_targets, fill_targets, goes_hard, hard_targets, is_filled, is_written, map_targets, soft_count, soft_targets, target_if}
-use Rattle.paraid_plan.specs.Units.{sync_targets}
+use Rattle.paraid_plan.specs.Units.{clean_targets}
 use Rattle.paraid_plan.proofs.DeskLemmas.{parked_of}
 use Rattle.paraid_plan.proofs.LiesLemmas.{fill_gear}
 use Rattle.paraid_plan.proofs.OutsLemmas.{alone_by}
@@ -162,7 +162,7 @@ map_placed_if v false j b in_range lj = tt
 
 -- The targets of a cell that goes back to its hard place.
 pub sync_placed : (v : View) (r d : ℕ) (map : Block) → IsInRange v.meta → r < v.meta.setup.geometry.rows → d < v.meta.setup.geometry.disks → d < rising_to v.meta.phase → named_out v.meta.out ≡ None
-    → ArePlaced v.meta (sync_targets v r d map)
+    → ArePlaced v.meta (clean_targets v r d map)
 sync_placed v r d map in_range lr ld rises none =
     let g = v.meta.setup.geometry in
     placed_append v.meta _ _

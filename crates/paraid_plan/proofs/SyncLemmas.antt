@@ -17,7 +17,7 @@ use Rattle.paraid_dirty.specs.Table.{table_with_bit, ShowsBits}
 use Rattle.paraid_image.specs.Sound.{IsWellKept}
 use Rattle.paraid_plan.specs.WriteTargets.{cell_targets, goes_hard, hard_targets, is_filled, overlaid_blocks, map_targets, view_with_cell}
 use Rattle.paraid_plan.specs.StoredCells.{AreBits, IsUnitKept, StoresCells}
-use Rattle.paraid_plan.specs.Units.{IsSameHeld, SyncKeeps, sync_targets}
+use Rattle.paraid_plan.specs.Units.{IsSameHeld, CleanKeeps, clean_targets}
 use Rattle.paraid_plan.proofs.CellLemmas.{bits_changed, cell_stored, goes_parked}
 use Rattle.paraid_plan.proofs.LayLemmas.{cases_both, changed_off, overlaid_blocks-append, lay_nil, put, put_at, put_off}
 use Rattle.paraid_plan.proofs.MapLemmas.{dirty_is, kept_now, value_now}
@@ -104,7 +104,7 @@ module _ (slots : ℕ) (power : ℕ → Power) (size : ℕ → ℕ) (m : Meta) (
       ap (λ (b : Batch). overlaid_blocks b block) (only_hard v r d x rises (λ is. apart (sym named ∙ is))) ∙ overlaid_blocks-append (hard_targets v r d x) [] block ∙ lay_nil _
 
   module _ (final : Contents) (final_is : (e u p : ℕ) → e < m.setup.geometry.disks → IsUnitKept power m (out_disk power m) e u → log_least ≤ p → p < disk_size m.setup.geometry
-      → final e p ≡ overlaid_blocks (sync_targets (view_by m power block) r d map) block e p) where
+      → final e p ≡ overlaid_blocks (clean_targets (view_by m power block) r d map) block e p) where
     agree : (e u p : ℕ) → e < g.disks → IsUnitKept power m v.out e u → log_least ≤ p → p < disk_size g → final e p ≡ overlaid_blocks (map_targets m (r / 512) map) v1.block e p
     agree e u p le k far near =
         final_is e u p le k far near
@@ -128,8 +128,8 @@ module _ (slots : ℕ) (power : ℕ → Power) (size : ℕ → ℕ) (m : Meta) (
         (λ y z not_it. changed_off v.dirty r d (not (goes_hard v r d)) y z (λ i _. not_it i)) true map (λ is. shows1) (λ is. cc) final agree q e l
         ∙ ap (λ (b : Bool). table_with_bit v.dirty r d (not b) q e) goes
 
-  pub sync_staged : IsSameHeld slots power size v (view_by m power (overlaid_blocks (sync_targets v r d map) block))
-  sync_staged = sync_final (overlaid_blocks (sync_targets v r d map) block) (λ e u p le k far near. refl)
+  pub sync_staged : IsSameHeld slots power size v (view_by m power (overlaid_blocks (clean_targets v r d map) block))
+  sync_staged = sync_final (overlaid_blocks (clean_targets v r d map) block) (λ e u p le k far near. refl)
 
-pub sync_keeps : SyncKeeps
-sync_keeps slots power size m block r d map in_range named kept lr ld rises apart shows = sync_staged slots power size m block r d map in_range named kept lr ld rises apart shows
+pub clean_keeps : CleanKeeps
+clean_keeps slots power size m block r d map in_range named kept lr ld rises apart shows = sync_staged slots power size m block r d map in_range named kept lr ld rises apart shows

@@ -22,16 +22,16 @@ pub record IsSameHeld (slots : ℕ) (power : ℕ → Power) (size : ℕ → ℕ)
       → blocks_of w b ≡ blocks_of v b
 
 -- a dirty cell goes back to its hard place, and its bit is cleared
-abbrev pub sync_targets : View → ℕ → ℕ → Block → Batch
-sync_targets v r d map = hard_targets v r d (value v r d) ++ map_targets v.meta (r / 512) map
+abbrev pub clean_targets : View → ℕ → ℕ → Block → Batch
+clean_targets v r d map = hard_targets v r d (value v r d) ++ map_targets v.meta (r / 512) map
 
 -- the law that a cell brought up to date keeps the disks well
-abbrev pub SyncKeeps : Type 0
-SyncKeeps = (slots : ℕ)
+abbrev pub CleanKeeps : Type 0
+CleanKeeps = (slots : ℕ)
     (power : ℕ → Power) (size : ℕ → ℕ) (m : Meta) (block : Contents) (r d : ℕ) (map : Block)
     → IsInRange m → out_disk power m ≡ named_out m.out
     → IsWellKept slots power size (view_by m power block) → r < m.setup.geometry.rows
     → d < m.setup.geometry.disks → d < rising_to m.phase → named_out m.out ≢ Some d
     → ShowsBits map (r / 512) (table_with_bit (view_by m power block).dirty r d false)
     → IsSameHeld slots power size (view_by m power block)
-    (view_by m power (overlaid_blocks (sync_targets (view_by m power block) r d map) block))
+    (view_by m power (overlaid_blocks (clean_targets (view_by m power block) r d map) block))

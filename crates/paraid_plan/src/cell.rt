@@ -12,7 +12,7 @@ ghost use Rattle.paraid_record.specs.Codes.{phase_to as phase_to_of};
 ghost use Rattle.paraid_record.specs.Range.{IsInRange};
 ghost use Rattle.paraid_record.specs.declared.meta.Meta.{Meta as MetaType};
 ghost use Rattle.paraid_image.specs.Spot.{is_hard as hard_in};
-ghost use Rattle.paraid_base.specs.Log.{draft_room};
+ghost use Rattle.paraid_base.specs.Log.{draft_room, change_room};
 
 use crate::desk::{PlanLost, WritePlan};
 use crate::marks::{is_filled, is_written};
@@ -95,7 +95,7 @@ fn depends_on_old<P: WritePlan>(plan: &P, m: &Meta, r: Row, d: DiskNo) -> bool
     has_parity(m, r, d) || is_filled(m, r, d)
 }
 
-/// The same, by the meta alone where no cell has a soft copy.
+/// The same, by the meta alone where no cell has a copy.
 pub(crate) fn needs_old<P: WritePlan>(plan: &P, m: &Meta, r: Row, d: DiskNo) -> bool
     requires serves { P.serves plan.now m.now }
     requires in_range { IsInRange m.now }
@@ -323,7 +323,7 @@ fn write_copies<P: WritePlan>(
     requires hard { hard ≡ goes_hard_in (sees m.now (P.desk plan.old)) r d }
     requires filled { filled ≡ filled_in m.now r d }
     requires room { length (P.desk plan.old).staged + 4 ≤ draft_room }
-    requires few { P.changes plan.old < 16 }
+    requires few { P.changes plan.old < change_room }
     ensures desk { OnOk result (P.tells plan.new
         → P.desk plan.new ≡ cell_desk m.now (P.desk plan.old) r d old.now new.now) }
     ensures bits { OnOk result
@@ -360,7 +360,7 @@ pub fn write_cell<P: WritePlan>(
     requires row { r < m.now.setup.geometry.rows }
     requires disk { d < m.now.setup.geometry.disks }
     requires room { length (P.desk plan.old).staged + 4 ≤ draft_room }
-    requires few { P.changes plan.old < 16 }
+    requires few { P.changes plan.old < change_room }
     ensures desk { OnOk result (P.tells plan.new
         → P.desk plan.new ≡ cell_desk m.now (P.desk plan.old) r d old.now new.now) }
     ensures bits { OnOk result

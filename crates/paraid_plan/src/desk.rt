@@ -1,6 +1,6 @@
 //! What a plan reads and stages.
 ghost use Rattle.std.specs.Prelude.{◌≡◌, ◌≢◌, ℕ, ◌+◌, ◌<◌, ◌≤◌, ◌⊎◌, true, length, OnOk, IfErr, Some};
-ghost use Rattle.paraid_base.specs.Log.{log_least, draft_room};
+ghost use Rattle.paraid_base.specs.Log.{log_least, draft_room, change_room};
 ghost use Rattle.paraid_base.specs.Regions.{disk_size};
 ghost use Rattle.paraid_plan.specs.Desk.{Desk, with_targets, desk_with_bit, sees};
 ghost use Rattle.paraid_plan.specs.WriteTargets.{soft_count, stripe_block_now, target_if};
@@ -132,7 +132,7 @@ pub trait WritePlan {
         requires serves { serves self.old m.now }
         requires row { r < m.now.setup.geometry.rows }
         requires disk { d < m.now.setup.geometry.disks }
-        requires few { changes self.old < 16 }
+        requires few { changes self.old < change_room }
         ensures desk { desk self.new ≡ desk_with_bit (desk self.old) r d bit }
         ensures changes { changes self.new ≡ changes self.old + 1 }
         ensures goes_on { serves self.new m.now }

@@ -1,11 +1,11 @@
 //! What the plan of a write promises, over all disks, gears, phases and rebuilds.
 ghost use Rattle.paraid_plan.specs.StoredCells.{KeptIsStored, KeptPlacesTell, StoredIsKept};
 ghost use Rattle.paraid_plan.specs.LossMark.{LostKeeps};
-ghost use Rattle.paraid_plan.specs.Units.{SyncKeeps};
+ghost use Rattle.paraid_plan.specs.Units.{CleanKeeps};
 
 /// A cell that goes back to its hard place leaves what is held.
-pub fn a_synced_cell_keeps_the_disks_well()
-    ensures { SyncKeeps }
+pub fn a_cleaned_cell_keeps_the_disks_well()
+    ensures { CleanKeeps }
 {}
 
 /// A disk that is lost, or failed by command, leaves what is held.

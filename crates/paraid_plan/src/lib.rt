@@ -19,7 +19,7 @@ mod write;
 pub use cell::write_cell;
 pub use desk::{PlanLost, WritePlan};
 pub use laws::{
-    a_lost_disk_is_marked_out, a_synced_cell_keeps_the_disks_well, kept_places_alone_tell,
+    a_cleaned_cell_keeps_the_disks_well, a_lost_disk_is_marked_out, kept_places_alone_tell,
     what_is_kept_well_is_stored, what_is_stored_is_kept_well,
 };
 pub use write::write_blocks;

@@ -1,5 +1,5 @@
-//! What the write of a row reads: the old values on which the soft parities depend, and what makes
-//! the row's new parity.
+//! What the write of a row reads: the old values on which the parities of copies depend, and what
+//! makes the row's new parity.
 ghost use Rattle.std.specs.Prelude.{◌≡◌, ◌≢◌, ℕ, ◌+◌, ◌<◌, true, length, get_or, Some, None, OnOk, not, ◌&&◌, ◌||◌, if◌then◌else◌};
 ghost use Rattle.paraid_base.specs.declared.block.Block.{Block as BlockType};
 ghost use Rattle.paraid_base.specs.Cells.{parity_disk as parity_disk_of};

@@ -15,7 +15,7 @@ ghost use Rattle.paraid_plan.specs.WrittenBits.{bits_after_writes};
 ghost use Rattle.paraid_record.specs.Range.{IsInRange};
 ghost use Rattle.paraid_record.specs.declared.meta.Meta.{Meta as MetaType};
 ghost use Rattle.paraid_base.specs.Regions.{array_blocks};
-ghost use Rattle.paraid_base.specs.Log.{draft_room};
+ghost use Rattle.paraid_base.specs.Log.{draft_room, change_room};
 
 use crate::blocks::{block_of, keep_if, kept_or, none_kept};
 use crate::cell::{has_soft, needs_old, stage_if, write_cell};
@@ -85,7 +85,7 @@ fn write_pair<P: WritePlan>(
     requires room { length (P.desk plan.old).staged
         + 4 * one_in_row m.now.setup.geometry.disks (get_or pairs.now.blocks at 0) r ≤ draft_room }
     requires bits { P.changes plan.old
-        + one_in_row m.now.setup.geometry.disks (get_or pairs.now.blocks at 0) r ≤ 16 }
+        + one_in_row m.now.setup.geometry.disks (get_or pairs.now.blocks at 0) r ≤ change_room }
     ensures { Leaves P.WritePlan (WritesCells P.WritePlan m.now (pairs_of pairs.now)
         ((get_or pairs.now.blocks at 0, get_or pairs.now.bytes at zero_block) ∷ []) r
         (one_in_row m.now.setup.geometry.disks (get_or pairs.now.blocks at 0) r)
@@ -119,7 +119,7 @@ fn write_pairs<P: WritePlan>(
     requires room { length (P.desk plan.old).staged
         + 4 * count_in_row m.now.setup.geometry.disks (pairs_of pairs.now) r ≤ draft_room }
     requires bits { P.changes plan.old
-        + count_in_row m.now.setup.geometry.disks (pairs_of pairs.now) r ≤ 16 }
+        + count_in_row m.now.setup.geometry.disks (pairs_of pairs.now) r ≤ change_room }
     ensures { Leaves P.WritePlan (WritesCells P.WritePlan m.now (pairs_of pairs.now)
         (pairs_of pairs.now) r (count_in_row m.now.setup.geometry.disks (pairs_of pairs.now) r)
         old.old old.new plan.old plan.new) plan.old plan.new result }
@@ -149,7 +149,7 @@ fn write_row_in<P: WritePlan>(
     requires room { length (P.desk plan.old).staged
         + 10 * count_in_row m.now.setup.geometry.disks (pairs_of pairs.now) r ≤ draft_room }
     requires bits { P.changes plan.old
-        + 2 * count_in_row m.now.setup.geometry.disks (pairs_of pairs.now) r ≤ 16 }
+        + 2 * count_in_row m.now.setup.geometry.disks (pairs_of pairs.now) r ≤ change_room }
     ensures { Leaves P.WritePlan (WritesRow P.WritePlan m.now
         (count_in_row m.now.setup.geometry.disks (pairs_of pairs.now) r) (λ c x.
         if home_row m.now.setup.geometry.disks c == r then last_of c x (pairs_of pairs.now)
@@ -179,7 +179,7 @@ fn write_row<P: WritePlan>(plan: &mut P, m: &Meta, pairs: &Pairs, r: Row) -> Res
     requires room { length (P.desk plan.old).staged
         + 10 * count_in_row m.now.setup.geometry.disks (pairs_of pairs.now) r ≤ draft_room }
     requires bits { P.changes plan.old
-        + 2 * count_in_row m.now.setup.geometry.disks (pairs_of pairs.now) r ≤ 16 }
+        + 2 * count_in_row m.now.setup.geometry.disks (pairs_of pairs.now) r ≤ change_room }
     ensures { Leaves P.WritePlan (WritesRow P.WritePlan m.now
         (count_in_row m.now.setup.geometry.disks (pairs_of pairs.now) r) (λ c x.
         if home_row m.now.setup.geometry.disks c == r then last_of c x (pairs_of pairs.now)
@@ -207,7 +207,7 @@ fn write_row_of<P: WritePlan>(
     requires room { length (P.desk plan.old).staged
         + 10 * count_of_new_row m.now.setup.geometry.disks pairs.now at ≤ draft_room }
     requires bits { P.changes plan.old
-        + 2 * count_of_new_row m.now.setup.geometry.disks pairs.now at ≤ 16 }
+        + 2 * count_of_new_row m.now.setup.geometry.disks pairs.now at ≤ change_room }
     ensures { Leaves P.WritePlan
         (WritesRow P.WritePlan m.now (count_of_new_row m.now.setup.geometry.disks pairs.now at)
         (row_change m.now.setup.geometry.disks pairs.now at) (turns_in_new_row
@@ -228,7 +228,7 @@ pub fn write_blocks<P: WritePlan>(plan: &mut P, m: &Meta, pairs: &Pairs) -> Resu
     requires blocks { All (λ (pair : ℕ × BlockType). pair.0
         < array_blocks m.now.setup.geometry) (pairs_of pairs.now) }
     requires room { length (P.desk plan.old).staged + 10 * pairs.now.count ≤ draft_room }
-    requires bits { P.changes plan.old + 2 * pairs.now.count ≤ 16 }
+    requires bits { P.changes plan.old + 2 * pairs.now.count ≤ change_room }
     ensures writes { OnOk result (P.tells plan.new
         → StageAll m.now (P.desk plan.old) (P.desk plan.new) (pairs_of pairs.now)) }
     ensures bits { OnOk result ((P.desk plan.new).dirty

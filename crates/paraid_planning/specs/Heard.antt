@@ -11,7 +11,8 @@ use Rattle.paraid_schedule.specs.Schedule.{demand_most}
 
 -- what an answer says of the bytes that were held before and taken in the call
 abbrev pub IsSpoken : Result Spoken LineFault → List ℕ → Reading → Type 0
-IsSpoken (Ok (Number number)) bytes new = (number ≤ demand_most) × IsNextLine bytes (decimal number) new
+IsSpoken (Ok (Number number)) bytes new =
+    (number ≤ demand_most) × IsNextLine bytes (decimal number) new
 IsSpoken (Ok Other) bytes new = (line : List ℕ) × IsNoNumber line × IsNextLine bytes line new
 IsSpoken (Ok End) bytes new = (bytes ≡ []) × (new.rest ≡ []) × IsTrue new.ended
 IsSpoken (Err fault) bytes new = (whole_lines bytes ≡ []) × (new.ended ≡ false)

@@ -24,7 +24,7 @@ pub fn allowance(ration: u16, burst: u16, period: u32, ticks: u64) -> u16
 }
 
 /// Whether the disks from `lo` to `hi - 1` may be parked: whether each has spins below what is
-/// allowed. The error is the least disk that has not.
+/// allowed. The error is the least disk that has used up its allowance.
 pub fn may_park(spins: &[u16; 8], allowed: u16, lo: DiskNo, hi: DiskNo) -> Result<(), DiskNo>
     requires order { lo ≤ hi }
     requires high { hi ≤ 8 }

@@ -1,5 +1,5 @@
 //! Units that are copied are marked by a commit; once all of them are, the disk comes back by one.
-ghost use Rattle.std.specs.Prelude.{◌≡◌, ℕ, ◌+◌, ◌^◌, ◌<◌, ◌≤◌, true, false, List, [], None, Ok, Some, OnOk, IfErr};
+ghost use Rattle.std.specs.Prelude.{◌≡◌, ℕ, ◌+◌, ◌<◌, ◌≤◌, true, false, List, [], None, Ok, Some, OnOk, IfErr};
 ghost use Rattle.paraid_base.specs.declared.state.Out.TheVariants.{Fresh, No};
 ghost use Rattle.paraid_base.specs.History.{History};
 ghost use Rattle.paraid_core.specs.Cores.{IsCoreHeldSinceCommit, batch_of, core_rack, core_table, meta_of};
@@ -10,6 +10,7 @@ ghost use Rattle.paraid_rebuild.specs.Rebuilds.{CanRebuild, HasCommitted, KeepsD
 ghost use Rattle.paraid_rebuild.specs.Replacing.{CommitsCopies, JoinsCopied, LosesCopies, LosesJoining};
 ghost use Rattle.paraid_record.specs.Range.{rebuild_units};
 ghost use Rattle.paraid_shift.specs.Serving.{RestsInShift};
+ghost use Rattle.paraid_base.specs.Log.{epoch_limit};
 
 use crate::replaced::is_gone;
 use paraid_base::{DiskNo, Two};
@@ -22,7 +23,7 @@ pub(crate) fn mark_units<R: Rack>(core: &mut Core<R>, disk: DiskNo, end: u32) ->
     requires nothing { batch_of core.old ≡ [] }
     requires limit { end
         ≤ rebuild_units (meta_of core.old).setup.geometry (meta_of core.old).gear disk }
-    requires epoch { (meta_of core.old).epoch < 2 ^ 63 }
+    requires epoch { (meta_of core.old).epoch < epoch_limit }
     ensures serves { OnOk result (HasCommitted core.new (Some disk)) }
     ensures epoch { OnOk result ((meta_of core.new).epoch ≡ (meta_of core.old).epoch + 1) }
     ensures marked { result ≡ Ok true → KeepsDisk core.new disk (record (meta_of core.old)
@@ -59,7 +60,7 @@ pub(crate) fn mark_units<R: Rack>(core: &mut Core<R>, disk: DiskNo, end: u32) ->
 pub(crate) fn come_back<R: Rack>(core: &mut Core<R>, disk: DiskNo) -> Result<bool, Two>
     requires can { CanRebuild core.old disk }
     requires nothing { batch_of core.old ≡ [] }
-    requires epoch { (meta_of core.old).epoch < 2 ^ 63 }
+    requires epoch { (meta_of core.old).epoch < epoch_limit }
     ensures serves { OnOk result (HasCommitted core.new None) }
     ensures epoch { OnOk result ((meta_of core.new).epoch ≡ (meta_of core.old).epoch + 1) }
     ensures back { result ≡ Ok true → KeepsDisk core.new disk (record (meta_of core.old)

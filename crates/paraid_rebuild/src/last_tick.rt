@@ -1,6 +1,6 @@
 //! A rebuild ends: the units that are left are copied past the log, and the disk comes back by a
 //! commit.
-ghost use Rattle.std.specs.Prelude.{◌≡◌, ℕ, ◌^◌, ◌<◌, ◌≤◌, true, false, List, [], None, Ok, OnOk, IfErr};
+ghost use Rattle.std.specs.Prelude.{◌≡◌, ℕ, ◌<◌, ◌≤◌, true, false, List, [], None, Ok, OnOk, IfErr};
 ghost use Rattle.paraid_base.specs.declared.state.Out.TheVariants.{No};
 ghost use Rattle.paraid_base.specs.History.{History};
 ghost use Rattle.paraid_base.specs.States.{rebuilt_count};
@@ -11,6 +11,7 @@ ghost use Rattle.paraid_event.specs.Service.{service_of};
 ghost use Rattle.paraid_rebuild.specs.Rebuilds.{CanRebuild, HoldsFromRest, KeepsDisk, LosesAgain, ServesLater, SparesSlots};
 ghost use Rattle.paraid_record.specs.Range.{rebuild_units as units_of_rebuild};
 ghost use Rattle.paraid_txn.specs.Stores.{named_of};
+ghost use Rattle.paraid_base.specs.Log.{epoch_limit};
 
 use crate::ending::come_back;
 use crate::moving::move_units;
@@ -27,7 +28,7 @@ fn conclude<R: Rack>(core: &mut Core<R>, disk: DiskNo, end: u32) -> Result<bool,
     requires from { rebuilt_count (meta_of core.old).out ≤ end }
     requires all { end
         ≡ units_of_rebuild (meta_of core.old).setup.geometry (meta_of core.old).gear disk }
-    requires epoch { (meta_of core.old).epoch < 2 ^ 63 }
+    requires epoch { (meta_of core.old).epoch < epoch_limit }
     ensures serves { OnOk result (ServesLater core.old core.new 1) }
     ensures absent { OnOk result (IsNamedOrAbsent R.slot core.new) }
     ensures back { result ≡ Ok true → KeepsDisk core.new disk (record (meta_of core.old)
@@ -61,7 +62,7 @@ fn conclude<R: Rack>(core: &mut Core<R>, disk: DiskNo, end: u32) -> Result<bool,
 pub fn finish<R: Rack>(core: &mut Core<R>, disk: DiskNo) -> Result<bool, Two>
     requires can { CanRebuild core.old disk }
     requires nothing { batch_of core.old ≡ [] }
-    requires epoch { (meta_of core.old).epoch < 2 ^ 63 }
+    requires epoch { (meta_of core.old).epoch < epoch_limit }
     ensures serves { OnOk result (ServesLater core.old core.new 1) }
     ensures absent { OnOk result (IsNamedOrAbsent R.slot core.new) }
     ensures back { result ≡ Ok true → KeepsDisk core.new disk (record (meta_of core.old)

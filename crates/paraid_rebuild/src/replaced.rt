@@ -1,6 +1,6 @@
 //! A disk that is out is replaced: that it is gone is committed, with all that is staged; then a
 //! fresh disk is attached in its place, and that it is there is committed.
-ghost use Rattle.std.specs.Prelude.{◌≡◌, ◌≢◌, ℕ, ◌+◌, ◌^◌, ◌<◌, ◌⊎◌, true, false, List, length, Ok, None, Some, OnOk, IfErr};
+ghost use Rattle.std.specs.Prelude.{◌≡◌, ◌≢◌, ℕ, ◌+◌, ◌<◌, ◌⊎◌, true, false, List, length, Ok, None, Some, OnOk, IfErr};
 ghost use Rattle.paraid_base.specs.declared.state.Out.TheVariants.{Fresh, Gone};
 ghost use Rattle.paraid_base.specs.History.{History};
 ghost use Rattle.paraid_base.specs.States.{gone_out};
@@ -14,6 +14,7 @@ ghost use Rattle.paraid_rack.specs.Told.{CrashTriple, Ran};
 ghost use Rattle.paraid_rebuild.specs.Rebuilds.{HasCommitted, HasFreshDisk, KeepsCounts, LacksFreshDisk, SparesSlots};
 ghost use Rattle.paraid_rebuild.specs.Replacing.{IsReplacedFrom, LeavesArrayBut, LosesFresh};
 ghost use Rattle.paraid_shift.specs.Serving.{IsCoreServing};
+ghost use Rattle.paraid_base.specs.Log.{epoch_limit};
 
 use paraid_base::{DiskNo, Two};
 use paraid_core::Core;
@@ -31,7 +32,7 @@ pub(crate) fn is_gone<R: Rack>(core: &Core<R>) -> bool
 fn commit_gone<R: Rack>(core: &mut Core<R>, disk: DiskNo) -> Result<(), Two>
     requires serving { IsCoreServing R.slot_count R.slot core.old }
     requires absent { IsNamedOrAbsent R.slot core.old }
-    requires epoch { (meta_of core.old).epoch < 2 ^ 63 }
+    requires epoch { (meta_of core.old).epoch < epoch_limit }
     requires out { named_out (meta_of core.old).out ≡ Some disk }
     ensures serves { OnOk result (HasCommitted core.new (Some disk)) }
     ensures meta { OnOk result
@@ -65,7 +66,7 @@ fn commit_gone<R: Rack>(core: &mut Core<R>, disk: DiskNo) -> Result<(), Two>
 fn bring_fresh<R: Rack>(core: &mut Core<R>, disk: DiskNo) -> Result<bool, Two>
     requires committed { HasCommitted core.old (Some disk) }
     requires gone { (meta_of core.old).out ≡ Gone disk }
-    requires epoch { (meta_of core.old).epoch < 2 ^ 63 }
+    requires epoch { (meta_of core.old).epoch < epoch_limit }
     ensures serves { OnOk result (HasCommitted core.new (Some disk)) }
     ensures leaves { OnOk result (LeavesArrayBut R.slot_count R.slot core.old core.new disk) }
     ensures there { result ≡ Ok true → HasFreshDisk core.old core.new disk (meta_of core.new
@@ -112,7 +113,7 @@ fn bring_fresh<R: Rack>(core: &mut Core<R>, disk: DiskNo) -> Result<bool, Two>
 pub fn begin<R: Rack>(core: &mut Core<R>, disk: DiskNo) -> Result<bool, Two>
     requires serving { IsCoreServing R.slot_count R.slot core.old }
     requires absent { IsNamedOrAbsent R.slot core.old }
-    requires epoch { (meta_of core.old).epoch + 1 < 2 ^ 63 }
+    requires epoch { (meta_of core.old).epoch + 1 < epoch_limit }
     requires out { named_out (meta_of core.old).out ≡ Some disk }
     ensures serves { OnOk result (HasCommitted core.new (Some disk)) }
     ensures leaves { OnOk result (LeavesArrayBut R.slot_count R.slot core.old core.new disk) }

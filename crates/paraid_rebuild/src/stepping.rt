@@ -1,6 +1,6 @@
 //! A step of a rebuild: what is staged is committed first, then units are copied and marked by a
 //! commit.
-ghost use Rattle.std.specs.Prelude.{◌≡◌, ℕ, ◌+◌, ◌^◌, ◌<◌, ◌≤◌, true, false, [], Ok, Some, OnOk};
+ghost use Rattle.std.specs.Prelude.{◌≡◌, ℕ, ◌+◌, ◌<◌, ◌≤◌, true, false, [], Ok, Some, OnOk};
 ghost use Rattle.paraid_base.specs.declared.state.Out.TheVariants.{Fresh, Gone};
 ghost use Rattle.paraid_base.specs.History.{History};
 ghost use Rattle.paraid_base.specs.States.{rebuilt_count};
@@ -12,6 +12,7 @@ ghost use Rattle.paraid_rebuild.specs.Rebuilds.{CanRebuild, HasCommitted, HoldsF
 ghost use Rattle.paraid_record.specs.Range.{rebuild_units};
 ghost use Rattle.paraid_shift.specs.Serving.{IsHeldInShift, IsCoreServing, RestsInShift, StandsInShift};
 ghost use Rattle.paraid_txn.specs.Stores.{named_of};
+ghost use Rattle.paraid_base.specs.Log.{epoch_limit};
 
 use crate::ending::mark_units;
 use crate::moving::move_units;
@@ -30,7 +31,7 @@ fn is_clear<R: Rack>(core: &Core<R>) -> bool
 /// Commits what is staged, if anything is. False where the disk that is rebuilt was lost in it.
 pub fn commit_staged<R: Rack>(core: &mut Core<R>, disk: DiskNo) -> Result<bool, Two>
     requires can { CanRebuild core.old disk }
-    requires epoch { (meta_of core.old).epoch < 2 ^ 63 }
+    requires epoch { (meta_of core.old).epoch < epoch_limit }
     ensures serves { OnOk result (ServesLater core.old core.new 1) }
     ensures named { OnOk result (named_of (store_of core.new) ≡ Some disk) }
     ensures same { result ≡ Ok true → KeepsDisk core.new disk
@@ -59,7 +60,7 @@ pub fn commit_lost<R: Rack>(core: &mut Core<R>, disk: DiskNo) -> Result<(), Two>
     requires serving { IsCoreServing R.slot_count R.slot core.old }
     requires out { (meta_of core.old).out ≡ Gone disk }
     requires absent { IsNamedOrAbsent R.slot core.old }
-    requires epoch { (meta_of core.old).epoch < 2 ^ 63 }
+    requires epoch { (meta_of core.old).epoch < epoch_limit }
     ensures serves { OnOk result (HasCommitted core.new (Some disk)) }
     ensures gone { OnOk result (meta_of core.new ≡ record (meta_after_loss
         (meta_of core.old) disk) { epoch = (meta_of core.old).epoch + 1 }) }
@@ -87,7 +88,7 @@ fn advance<R: Rack>(core: &mut Core<R>, disk: DiskNo, end: u32) -> Result<bool, 
     requires from { rebuilt_count (meta_of core.old).out ≤ end }
     requires limit { end
         ≤ rebuild_units (meta_of core.old).setup.geometry (meta_of core.old).gear disk }
-    requires epoch { (meta_of core.old).epoch < 2 ^ 63 }
+    requires epoch { (meta_of core.old).epoch < epoch_limit }
     ensures serves { OnOk result (ServesLater core.old core.new 1) }
     ensures named { OnOk result (named_of (store_of core.new) ≡ Some disk) }
     ensures moved { result ≡ Ok true → KeepsDisk core.new disk (record (meta_of core.old)
@@ -112,7 +113,7 @@ fn go_on<R: Rack>(core: &mut Core<R>, disk: DiskNo, end: u32) -> Result<bool, Tw
     requires from { rebuilt_count (meta_of core.old).out ≤ end }
     requires limit { end
         ≤ rebuild_units (meta_of core.old).setup.geometry (meta_of core.old).gear disk }
-    requires epoch { (meta_of core.old).epoch + 1 < 2 ^ 63 }
+    requires epoch { (meta_of core.old).epoch + 1 < epoch_limit }
     ensures serves { OnOk result (ServesLater core.old core.new 2) }
     ensures named { OnOk result (named_of (store_of core.new) ≡ Some disk) }
     ensures moved { result ≡ Ok true → KeepsDisk core.new disk (record (meta_of core.old)
@@ -146,7 +147,7 @@ pub fn step<R: Rack>(core: &mut Core<R>, disk: DiskNo, end: u32) -> Result<bool,
     requires from { rebuilt_count (meta_of core.old).out ≤ end }
     requires limit { end
         ≤ rebuild_units (meta_of core.old).setup.geometry (meta_of core.old).gear disk }
-    requires epoch { (meta_of core.old).epoch + 2 < 2 ^ 63 }
+    requires epoch { (meta_of core.old).epoch + 2 < epoch_limit }
     ensures serves { OnOk result (ServesLater core.old core.new 3) }
     ensures absent { OnOk result (IsNamedOrAbsent R.slot core.new) }
     ensures named { OnOk result (named_of (store_of core.new) ≡ Some disk) }

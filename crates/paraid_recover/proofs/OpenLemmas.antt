@@ -19,7 +19,7 @@ use Rattle.paraid_record.specs.Targets.{IsTargetInRange}
 use Rattle.paraid_image.specs.Out.{named_out}
 use Rattle.paraid_image.specs.Sides.{Batch, is_open, targets}
 use Rattle.paraid_txn.specs.Uses.{EachCall, Uses}
-use Rattle.paraid_txn.specs.Witness.{LeavePlace, LeavesPlace}
+use Rattle.paraid_txn.specs.Witness.{EachLeavesPlace, LeavesPlace}
 use Rattle.paraid_txn.proofs.CommitPartLemmas.{ran_milder}
 use Rattle.paraid_txn.proofs.OnceLemmas.{leave_both, steps_leave}
 use Rattle.paraid_recover.specs.Bearing.{BearsOnce, IsNamedLog, LeavesOpen}
@@ -39,7 +39,7 @@ left_by x (Park e done) s left = refl
 left_by x (SpinUp e done) s left = refl
 left_by x (Attach e size done) s left = ap (λ (f : ℕ → Block). f x) (with_at_other s.block e (after_attach done (s.block e)) 2 left)
 
-left_block : (x : ℕ) (cs : List Call) (s : Disks) → LeavePlace 2 x cs → (run s cs).block 2 x ≡ s.block 2 x
+left_block : (x : ℕ) (cs : List Call) (s : Disks) → EachLeavesPlace 2 x cs → (run s cs).block 2 x ≡ s.block 2 x
 left_block x [] s left = refl
 left_block x (c ∷ cs) s left = left_block x cs (step c s) left.1 ∙ left_by x c s left.0
 
@@ -82,7 +82,7 @@ shut_after old new y disk b same grows bytes shut t tells =
     subst (λ (k : ℕ). is_open ((now t).block 2 k) ≡ false) same (ap is_open (block ∙ sym (bytes it.0 it.1)) ∙ shut)
 
 -- calls that leave each place of a witness
-leave_each : (u : Call → Type 0) (x : ℕ) → ((c : Call) → u c → LeavesPlace 2 x c) → (s : Disks) (cs : List Call) → EachCall u s cs → LeavePlace 2 x cs
+leave_each : (u : Call → Type 0) (x : ℕ) → ((c : Call) → u c → LeavesPlace 2 x c) → (s : Disks) (cs : List Call) → EachCall u s cs → EachLeavesPlace 2 x cs
 leave_each u x leaves s [] each = tt
 leave_each u x leaves s (c ∷ cs) each = (leaves c each.1, leave_each u x leaves (step c s) cs each.2)
 

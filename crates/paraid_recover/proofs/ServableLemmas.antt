@@ -28,7 +28,7 @@ use Rattle.paraid_txn.specs.Losses.IsOutOfCommit.{is_absent, was_named, is_named
 use Rattle.paraid_txn.proofs.MeansLemmas.{absent_power}
 use Rattle.paraid_recover.specs.HeldMoments.{IsOutAtEnd}
 use Rattle.paraid_recover.specs.RecoveryMark.{to_mark, to_mark_by, with_mark}
-use Rattle.paraid_session.specs.Powers.{AreAllSynced}
+use Rattle.paraid_session.specs.Powers.{AreSlotsSynced}
 use Rattle.paraid_recover.specs.Mounted.{IsFit, IsServable, with_loss}
 use Rattle.paraid_recover.specs.Powers.{IsPowered, IsPowerChanged}
 use Rattle.paraid_recover.proofs.RenewLemmas.{renewed_out, renewed_setup}
@@ -169,7 +169,7 @@ module _ (count : ℕ) (a b : ℕ → Slot) (m : Meta) (fit : IsFit count a m) (
     size_is : (with_loss m o).setup.geometry.disks ≡ n
     size_is = ap (λ s. s.geometry.disks) (setup_is o)
 
-    pub servable : (last array rows : ℕ) (named : Option ℕ) → n ≡ array → m.version ≡ 2 → m.epoch ≡ last → named ≡ named_out m.out → rows ≡ m.setup.geometry.rows → AreAllSynced m a
+    pub servable : (last array rows : ℕ) (named : Option ℕ) → n ≡ array → m.version ≡ 2 → m.epoch ≡ last → named ≡ named_out m.out → rows ≡ m.setup.geometry.rows → AreSlotsSynced m a
         → IsServable count b last array named (with_loss m o) rows
     servable last array rows named array_is two last_is named_is rows_are synced = record {
       fit = fit_lost o o_is;

@@ -14,7 +14,7 @@ use Rattle.paraid_record.specs.declared.meta.Setup.{Setup}
 use Rattle.paraid_txn.specs.Ready.{IsLogReady}
 use Rattle.paraid_txn.specs.Uses.{CanSync}
 use Rattle.paraid_txn.specs.Losses.{AreFailedOrWell, IsSyncedAt, OnlyLosesSlots, StaySynced}
-use Rattle.paraid_session.specs.Powers.{AreAllSynced}
+use Rattle.paraid_session.specs.Powers.{AreSlotsSynced}
 use Rattle.paraid_recover.specs.RecoveryMark.{renewed_by, to_mark, to_mark_by, with_mark}
 use Rattle.paraid_recover.proofs.ServableLemmas.{disks_marked}
 
@@ -41,7 +41,7 @@ gone_marked power m d gone = by m.out refl gone
     by (Fresh e rebuilt) is gone = let z : None ≡ Some d = gone in cc
 
 pub marked_synced : (b c : ℕ → Slot) (m : Meta) (skip : Option ℕ) (k : ℕ) → skip ≡ gone_out m.out → k ≡ m.setup.geometry.disks → ((d : ℕ) → d < k → skip ≢ Some d → IsSyncedAt b d)
-    → OnlyLosesSlots b c → StaySynced b c → AreAllSynced (with_mark m (to_mark (λ d. (b d).power) m)) c
+    → OnlyLosesSlots b c → StaySynced b c → AreSlotsSynced (with_mark m (to_mark (λ d. (b d).power) m)) c
 marked_synced b c m skip k skip_is k_is synced spared stays d low not there = split (c d).unsynced refl
   where
     low_before : d < k

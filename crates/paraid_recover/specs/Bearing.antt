@@ -21,7 +21,7 @@ use Rattle.paraid_txn.specs.Commit.{gone_out}
 use Rattle.paraid_txn.specs.Stores.{IsSameStore, store_rack}
 use Rattle.paraid_txn.specs.Resume.{IsResumable}
 use Rattle.paraid_txn.specs.Uses.{EachCall}
-use Rattle.paraid_txn.specs.Witness.{LeavePlace}
+use Rattle.paraid_txn.specs.Witness.{EachLeavesPlace}
 use Rattle.paraid_recover.specs.HeldMoments.{IsAbsentSince}
 
 -- this is a log disk, and it is named
@@ -62,7 +62,7 @@ pub record IsOnBearer {R : Type 0}
 -- it is open as they begin
 abbrev pub LeavesOpen : Option ℕ → Disks → List Call → Type 0
 LeavesOpen named s cs =
-    (x : ℕ) → IsNamedLog named x → is_open (s.block 2 x) ≡ true → LeavePlace 2 x cs
+    (x : ℕ) → IsNamedLog named x → is_open (s.block 2 x) ≡ true → EachLeavesPlace 2 x cs
 
 -- A witness against the log disk that a meta of version 2 says is gone is not borne again: its
 -- place is not written by the calls between these records, where it is open as they begin.

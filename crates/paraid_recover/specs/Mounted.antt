@@ -11,7 +11,7 @@ use Rattle.paraid_record.specs.Range.{IsInRange}
 use Rattle.paraid_image.specs.Mark.{marked_gone}
 use Rattle.paraid_image.specs.Out.{named_out}
 use Rattle.paraid_image.specs.Power.{power_by_gear}
-use Rattle.paraid_session.specs.Powers.{AreAllSynced}
+use Rattle.paraid_session.specs.Powers.{AreSlotsSynced}
 use Rattle.paraid_txn.specs.Losses.{IsOneOut}
 use Rattle.paraid_recover.specs.RecoveryMark.{to_mark}
 
@@ -57,4 +57,4 @@ pub record IsServable (count : ℕ)
       → named_out m.out ≢ Some d → (slot d).power ≡ power_by_gear m.gear m.phase d
   pub fresh_spins : (d rebuilt : ℕ)
       → m.out ≡ Fresh d rebuilt → is_present (slot d).power ≡ true → (slot d).power ≡ Spinning
-  pub synced : AreAllSynced m slot
+  pub synced : AreSlotsSynced m slot

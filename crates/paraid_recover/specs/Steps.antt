@@ -12,7 +12,7 @@ use Rattle.paraid_record.specs.declared.meta.Meta.{Meta}
 use Rattle.paraid_record.specs.Range.{IsInRange}
 use Rattle.paraid_image.specs.Out.{named_out}
 use Rattle.paraid_image.specs.Sides.{Batch, LogState}
-use Rattle.paraid_session.specs.Powers.{AreAllSynced}
+use Rattle.paraid_session.specs.Powers.{AreSlotsSynced}
 use Rattle.paraid_txn.specs.declared.store.Store.{Store}
 use Rattle.paraid_txn.specs.Losses.{AreFailedOrWell, AreGoneSince, AreTwoDownBeside, IsOneOut, OnlyLosesSlots, StaySynced, TellsSecondLoss}
 use Rattle.paraid_txn.specs.Ready.{IsLogReady}
@@ -96,7 +96,7 @@ pub record HasStood {R : Type 0} {g : Ghosts R} (store : Store R g) (m : Meta) :
   pub named : named_out m.out ≡ named_of store
   pub version : m.version ≡ 2
   pub fit : IsFit (g.slot_count (store_rack store)) (g.slot (store_rack store)) m
-  pub synced : AreAllSynced m (g.slot (store_rack store))
+  pub synced : AreSlotsSynced m (g.slot (store_rack store))
 
 -- The same from the rack whose log disk `x` stood and said this: it has as many slots as before,
 -- and no count of faults falls. Past the log each block is as it was, or is of the batch. A witness

@@ -10,7 +10,7 @@ ghost use Rattle.paraid_recover.specs.Examined.{IsExamined, IsRefused};
 ghost use Rattle.paraid_rack.specs.Slots.{Agrees, Slot};
 ghost use Rattle.paraid_rack.specs.Trail.{Trail, now};
 
-/// Where the rack tells its calls, a mount that is refused by a cause can not go on, and one that
+/// Where the rack tells its calls, a mount that is refused by a cause cannot go on, and one that
 /// goes on is refused by none.
 pub fn a_mount_is_refused_or_goes_on()
     ensures { (count : ℕ) (old new : ℕ → Slot) (told : Option Trail) (t : Trail) → told ≡ Some t

@@ -64,7 +64,7 @@ fn take_block(table: &mut DirtyTable, j: u32, block: &Block)
     }
 }
 
-// Reads a block of the map. It refuses where the disk has failed.
+// Reads a block of the map. It answers the disk where that has failed.
 fn read_block<R: Rack>(
     store: &mut Store<R>,
     disk: DiskNo,

@@ -141,7 +141,8 @@ fn raise<R: Rack>(
     ensures ends { IfOk result (λ m. (standing : MetaType) × (lost : Option ℕ)
         × (m ≡ with_loss_of standing lost) × (standing.setup ≡ meta.now.setup) × ((d : ℕ)
         → named_out meta.now.out ≡ Some d → named_out standing.out ≡ Some d)
-        × (standing.version ≡ 2) × ((mark : Option ℕ) × (standing ≡ with_mark meta.now mark) × IsMarkAtMoment meta.now mark
+        × (standing.version ≡ 2)
+        × ((mark : Option ℕ) × (standing ≡ with_mark meta.now mark) × IsMarkAtMoment meta.now mark
         (R.told (store_rack store.old)) (R.told (store_rack store.new)))
         × ((slots x : ℕ) (said : LogState) (old : Option Trail)
         → said.meta ≡ meta.now → Recovers slots x said old (R.told (store_rack store.old))

@@ -42,4 +42,5 @@ IsPlanFault demand (Length long) =
     (long ≡ min (length demand) (2 ^ 32 - 1)) × (1 ≤ length demand → length demand ≤ 1024 → ⊥)
 IsPlanFault demand (Demand at) =
     (length demand ≤ 1024) × (at < length demand)
-    × (demand_most < slice_index demand at) × ((t : ℕ) → t < at → slice_index demand t ≤ demand_most)
+    × (demand_most < slice_index demand at)
+    × ((t : ℕ) → t < at → slice_index demand t ≤ demand_most)

@@ -16,7 +16,7 @@ use Rattle.paraid_serve.specs.Causes.{CommitsFew, HasCause, HaveCauses, Shown, m
 use Rattle.paraid_serve.specs.Form.{HasAnswers, texts}
 use Rattle.paraid_serve.specs.Causes.HasReason.{again as reason_again, bad as reason_bad}
 use Rattle.paraid_session.proofs.FaultLemmas.{same_counts}
-use Rattle.paraid_session.specs.Powers.{AreAllSynced, FitsSlots}
+use Rattle.paraid_session.specs.Powers.{AreSlotsSynced, FitsSlots}
 use Rattle.paraid_serve.specs.Stretch.{events_in}
 use Rattle.paraid_serve.proofs.StretchLemmas.{events_in-push}
 
@@ -49,7 +49,7 @@ commits_none x most = record { later = le_same x.meta.epoch; few = none_more x.m
     le_same n = omega arith
 
 -- with nothing done
-pub bad_cause : (x : Shown) → (x.halt ≡ None → FitsSlots x.slot x.meta) → (x.halt ≡ None → AreAllSynced x.meta x.slot) → HasCause x Bad IsBad x
+pub bad_cause : (x : Shown) → (x.halt ≡ None → FitsSlots x.slot x.meta) → (x.halt ≡ None → AreSlotsSynced x.meta x.slot) → HasCause x Bad IsBad x
 bad_cause x fits synced = record { reason = reason_bad refl refl refl; setup = refl; halt = λ not. absurd (not refl); gear = λ not. absurd (not refl); counts = record { samples = refl; served = refl }; commits = λ going. commits_none x 0; later = same_counts x.slot; fits = fits; synced = synced }
 
 pub again_cause : (x : Shown) (event : Event) (halt : Halt) → event ≢ Bad → x.halt ≡ Some halt → HasCause x event (Halted halt) x

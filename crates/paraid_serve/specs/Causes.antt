@@ -39,7 +39,7 @@ use Rattle.paraid_record.specs.declared.meta.Meta.{Meta}
 use Rattle.paraid_record.specs.declared.meta.Setup.{Setup}
 use Rattle.paraid_record.specs.Modes.{is_access}
 use Rattle.paraid_session.specs.Faults.{HaveNotFallen}
-use Rattle.paraid_session.specs.Powers.{AreAllSynced, FitsSlots}
+use Rattle.paraid_session.specs.Powers.{AreSlotsSynced, FitsSlots}
 use Rattle.paraid_session.specs.Turn.{halt_told, may_halt, own_energy}
 use Rattle.paraid_serve.specs.Lost.{AreTwoLost}
 
@@ -68,7 +68,7 @@ pub record Shows (x : Shown) (own : Setup) (slots : ℕ → Slot) (ended : Optio
   pub halt : x.halt ≡ ended
   pub gear : x.halt ≡ None → x.gear ≡ x.meta.gear
   pub fits : x.halt ≡ None → FitsSlots x.slot x.meta
-  pub synced : x.halt ≡ None → AreAllSynced x.meta x.slot
+  pub synced : x.halt ≡ None → AreSlotsSynced x.meta x.slot
 
 -- the state that its events see, with what it has of the samples and the requests
 abbrev pub state_shown : Shown → PowerState
@@ -458,8 +458,8 @@ gear_after (Some halt) old new = old.gear
 
 -- The most commits that an event makes. A write makes one where what is staged leaves no room for
 -- ten targets for each of its pairs, a read that cleans a cell where it leaves none for three, and
--- any other read or write none; a flush one where anything is staged; a tick three, and one for each
--- unit that it may move; and what is asked of shifts and disks two.
+-- any other read or write none; a flush one where anything is staged; a tick three, and one for
+-- each unit that it may move; and what is asked of shifts and disks two.
 abbrev pub most_commits : Shown → Event → ℕ
 most_commits x (Read block) = if read_cleans x block && lacks_room x 3 then 1 else 0
 most_commits x (Write pairs) = if lacks_room x (10 * pairs.count) then 1 else 0
@@ -490,7 +490,7 @@ pub record HasCause (old : Shown) (event : Event) (answer : Answer) (new : Shown
   -- while it serves, its disks are powered by its gear, and each that is there and not gone is
   -- synced
   pub fits : new.halt ≡ None → FitsSlots new.slot new.meta
-  pub synced : new.halt ≡ None → AreAllSynced new.meta new.slot
+  pub synced : new.halt ≡ None → AreSlotsSynced new.meta new.slot
 
 -- Each event is answered with a cause, one after the other.
 abbrev pub HaveCauses : Shown → List Event → List Answer → Shown → Type 0

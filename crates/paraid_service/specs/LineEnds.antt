@@ -50,7 +50,8 @@ pub record CutsLines
 abbrev pub EndsLines : List ℕ
     → List (List ℕ) → List ℕ → List ℕ → List ℕ → Option (List ℕ) → LinesEnd → Type 0
 EndsLines bytes lines front reply written after Done =
-    (lines ≡ lines_of bytes) × (written ≡ front ++ reply) × (length bytes < stream_most) × AtEnd after
+    (lines ≡ lines_of bytes)
+    × (written ≡ front ++ reply) × (length bytes < stream_most) × AtEnd after
 EndsLines bytes lines front reply written after Source =
     (lines ≡ whole_lines bytes) × (written ≡ front ++ reply)
 EndsLines bytes lines front reply written after TooLong =

@@ -81,10 +81,14 @@ pub record IsBegun (slots : ℕ) (s : Disks) (said : LogState) (h : History)
   pub awaited : p.awaited ≡ gone_out p.state.out
   pub going : p.halt ≡ None
 
+-- no mount makes more commits than so many
+abbrev pub mount_room : ℕ
+mount_room = 8
+
 -- what bounds the metas that stand during a mount
 abbrev pub mount_bounds : LogState → ℕ → Bounds
 mount_bounds said ticks =
-    record { setup = said.meta.setup; epoch = said.meta.epoch + 8; ticks = ticks }
+    record { setup = said.meta.setup; epoch = said.meta.epoch + mount_room; ticks = ticks }
 
 -- The calls of a mount. At each moment each stop leaves the history of the run start.
 pub record IsMounting (slots : ℕ) (s : Disks) (x : ℕ)

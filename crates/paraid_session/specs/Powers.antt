@@ -17,6 +17,6 @@ pub record FitsSlots (slot : ℕ → Slot) (m : Meta) : Type 0 where
       → named_out m.out ≢ Some d → disk_size m.setup.geometry ≤ (slot d).size
 
 -- each disk of the array that is there and not gone has nothing unsynced
-abbrev pub AreAllSynced : Meta → (ℕ → Slot) → Type 0
-AreAllSynced m slot = (d : ℕ) → d < m.setup.geometry.disks
+abbrev pub AreSlotsSynced : Meta → (ℕ → Slot) → Type 0
+AreSlotsSynced m slot = (d : ℕ) → d < m.setup.geometry.disks
     → gone_out m.out ≢ Some d → is_present (slot d).power ≡ true → (slot d).unsynced ≡ false

@@ -29,7 +29,7 @@ use Rattle.paraid_image.specs.Shown.{IsShown, with_flush}
 use Rattle.paraid_machine.specs.Energy.{energy_after, tick_energy}
 use Rattle.paraid_machine.specs.Machine.{IsEventStep}
 use Rattle.paraid_machine.specs.Moves.{state_with_tick}
-use Rattle.paraid_session.specs.Ups.{up_count}
+use Rattle.paraid_session.specs.Ups.{spin_up_count}
 use Rattle.paraid_session.specs.Watch.{Bounds, Down, Each, EndsServing, IsAllowed, HoldsWhileServing, IsServing, Watch, attach_count, before_loss, down_from_out, first_lost, watch_all, with_down}
 use Rattle.paraid_base.specs.Told.{counter_most}
 
@@ -191,7 +191,7 @@ pub record IsAnswered (slots : ℕ) (setup : Setup)
   pub attached : tells_attach answer ≡ true → attach_count calls ≡ 1
   -- no disk is spun up more often than the state has recorded of it since
   pub ups : (d : ℕ) → d < setup.geometry.disks
-      → up_count d calls ≤ slice_index q.state.spins d - slice_index p.state.spins d
+      → spin_up_count d calls ≤ slice_index q.state.spins d - slice_index p.state.spins d
   pub quiet : makes_no_call answer ≡ true → first_lost calls ≡ None → calls ≡ []
   -- one disk at most is down after it
   pub serving : IsServing (watch_all calls (watch_of p event answer)).down

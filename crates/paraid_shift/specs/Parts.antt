@@ -19,6 +19,7 @@ use Rattle.paraid_core.specs.Steps.{IsHeldStill, IsNamedOrAbsent, LeavesCore}
 use Rattle.paraid_shift.specs.Outcomes.{PowersDisks}
 use Rattle.paraid_shift.specs.Serving.{IsCoreServing, IsHeldFromRest, KeepsFit, LeavesArray, StandsFromRest}
 use Rattle.paraid_shift.specs.Steps.{MakesPowerCalls}
+use Rattle.paraid_base.specs.Log.{epoch_limit}
 
 -- Units can be moved: the core serves, no disk is out, and nothing is staged.
 pub record CanMoveUnits {R : Type 0} {g : Ghosts R} (core : Core R g) : Type 0 where
@@ -30,7 +31,7 @@ pub record CanMoveUnits {R : Type 0} {g : Ghosts R} (core : Core R g) : Type 0 w
 -- have the next epoch.
 pub record CanBeginShift {R : Type 0} {g : Ghosts R} (core : Core R g) : Type 0 where
   pub serving : IsCoreServing g.slot_count g.slot core
-  pub epoch : core.meta.epoch < 2 ^ 63
+  pub epoch : core.meta.epoch < epoch_limit
   pub whole : core.meta.out ≡ No
   pub steady : core.meta.phase ≡ Steady
 
@@ -38,7 +39,7 @@ pub record CanBeginShift {R : Type 0} {g : Ghosts R} (core : Core R g) : Type 0 
 -- next epoch.
 pub record CanEndShift {R : Type 0} {g : Ghosts R} (core : Core R g) : Type 0 where
   pub serving : IsCoreServing g.slot_count g.slot core
-  pub epoch : core.meta.epoch < 2 ^ 63
+  pub epoch : core.meta.epoch < epoch_limit
   pub whole : core.meta.out ≡ No
   pub shifts : 0 < phase_to core.meta.phase
   pub filled : core.meta.fill ≡ stripe_count

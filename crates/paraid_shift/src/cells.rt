@@ -9,6 +9,7 @@ ghost use Rattle.paraid_shift.specs.Parts.{CanMoveUnits, CopiesUnits, SparesRack
 ghost use Rattle.paraid_shift.specs.Serving.{CopiesFromRest, IsCoreServing, KeepsCopied};
 ghost use Rattle.paraid_shift.specs.Steps.{CoreLosesInSteps};
 ghost use Rattle.paraid_shift.specs.Units.{CoreCountsMoved, HasDirtyBefore, IsGroupOf, are_copied_before};
+ghost use Rattle.paraid_base.specs.Log.{batch_room};
 
 use crate::units::{first_cell, next_cell};
 use paraid_base::{BATCH_ROOM, DiskNo, Out, Row, Two};
@@ -79,7 +80,7 @@ fn copy_cells<R: Rack>(core: &mut Core<R>, most: u32) -> Result<Option<Group>, T
         let Some(more) = with_cell(group, r, d) else {
             return Ok(Some(group));
         };
-        let done = core.sync_cell(r, d)?;
+        let done = core.copy_cell(r, d)?;
         if !done {
             return Ok(None);
         }
@@ -111,7 +112,7 @@ fn mark_one<R: Rack>(core: &mut Core<R>, group: &Group) -> bool
     ensures store { store_of core.new ≡ store_of core.old }
     ensures moves { result ≡ true → CoreCountsMoved R.slot_count core.old core.new 1 }
     ensures idle { result ≡ false → core.new ≡ core.old }
-    ensures some { result ≡ false → length (batch_of core.old) ≤ 94
+    ensures some { result ≡ false → length (batch_of core.old) + 2 ≤ batch_room
         → HasDirtyBefore (meta_of core.old) (core_table core.old) group.now.row group.now.disk → ⊥ }
     ensures copied { KeepsCopied R.slot_count R.told core.old core.new
         (are_copied_before (meta_of core.old) group.now.row group.now.disk) }
@@ -139,7 +140,7 @@ fn mark_cells<R: Rack>(core: &mut Core<R>, group: &Group) -> u32
     ensures few { result ≤ group.now.count }
     ensures moves { CoreCountsMoved R.slot_count core.old core.new result }
     ensures idle { result ≡ 0 → core.new ≡ core.old }
-    ensures some { length (batch_of core.old) ≤ 94 → 0 < group.now.count
+    ensures some { length (batch_of core.old) + 2 ≤ batch_room → 0 < group.now.count
         → HasDirtyBefore (meta_of core.old) (core_table core.old) group.now.row group.now.disk
         → 0 < result }
     ensures copied { KeepsCopied R.slot_count R.told core.old core.new

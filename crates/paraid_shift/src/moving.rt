@@ -11,6 +11,7 @@ ghost use Rattle.paraid_shift.specs.Parts.{AreStripesToFill, CanMoveUnits, Keeps
 ghost use Rattle.paraid_shift.specs.Serving.{IsCoreServing};
 ghost use Rattle.paraid_shift.specs.Steps.{CoreLosesInSteps, CoreStepsInEvent, StepsOrWaits};
 ghost use Rattle.paraid_shift.specs.Units.{AreCellsDone, AreCoreUnitsLeft, AreUnitsDone, CoreCountsMoved, MovesUpTo};
+ghost use Rattle.paraid_base.specs.Log.{epoch_limit};
 
 use crate::cells::move_group;
 use crate::stripes::move_stripes;
@@ -31,7 +32,7 @@ pub struct Moved {
 // Commits what is staged.
 fn commit<R: Rack>(core: &mut Core<R>) -> Result<(), Two>
     requires serving { IsCoreServing R.slot_count R.slot core.old }
-    requires epoch { (meta_of core.old).epoch < 2 ^ 63 }
+    requires epoch { (meta_of core.old).epoch < epoch_limit }
     ensures commits { OnOk result (CommitsInEvent R.slot_count R.slot R.told core.old core.new) }
     ensures table { core_table core.new ≡ core_table core.old }
     ensures rack { SparesRack core.old core.new
@@ -44,7 +45,7 @@ fn commit<R: Rack>(core: &mut Core<R>) -> Result<(), Two>
 /// Commits what is staged, if anything is.
 pub fn commit_staged<R: Rack>(core: &mut Core<R>) -> Result<(), Two>
     requires serving { IsCoreServing R.slot_count R.slot core.old }
-    requires epoch { (meta_of core.old).epoch < 2 ^ 63 }
+    requires epoch { (meta_of core.old).epoch < epoch_limit }
     ensures serves { OnOk result (ServesOn R.slot_count R.slot core.old core.new 1) }
     ensures nothing { OnOk result (batch_of core.new ≡ []) }
     ensures meta { OnOk result (IsMarkedFrom
@@ -78,7 +79,7 @@ fn has_ended<R: Rack>(core: &Core<R>) -> bool
 // how many they were.
 fn step_group<R: Rack>(core: &mut Core<R>, most: u32) -> Result<u32, Two>
     requires can { CanMoveUnits core.old }
-    requires epoch { (meta_of core.old).epoch < 2 ^ 63 }
+    requires epoch { (meta_of core.old).epoch < epoch_limit }
     ensures steps { IfOk result (λ count. StepsOn R.slot_count R.slot core.old core.new most 1 count
         (MovesGroup R.slot_count core.old core.new most count)
         (CoreStepsInEvent R.slot_count R.told core.old core.new 1)) }
@@ -100,7 +101,7 @@ fn step_group<R: Rack>(core: &mut Core<R>, most: u32) -> Result<u32, Two>
 // they were.
 fn step_cells<R: Rack>(core: &mut Core<R>, most: u32) -> Result<u32, Two>
     requires can { CanMoveUnits core.old }
-    requires epoch { (meta_of core.old).epoch + most < 2 ^ 63 }
+    requires epoch { (meta_of core.old).epoch + most < epoch_limit }
     ensures steps { IfOk result (λ count.
         StepsOn R.slot_count R.slot core.old core.new most most count (MovesUpTo R.slot_count
         core.old core.new (AreCellsDone (meta_of core.new) (core_table core.new)) most count)
@@ -148,7 +149,7 @@ fn next_end<R: Rack>(core: &Core<R>, most: u32) -> u32
 fn step_stripes<R: Rack>(core: &mut Core<R>, most: u32) -> Result<u32, Two>
     requires can { CanMoveUnits core.old }
     requires clean { 0 < most → AreCellsDone (meta_of core.old) (core_table core.old) }
-    requires epoch { (meta_of core.old).epoch < 2 ^ 63 }
+    requires epoch { (meta_of core.old).epoch < epoch_limit }
     ensures steps { IfOk result (λ count. StepsOn R.slot_count R.slot core.old core.new most 1 count
         (MovesUpTo R.slot_count core.old core.new (AreUnitsDone (meta_of core.new)
         (core_table core.new)) most count) (StepsOrWaits R.slot_count R.told core.old core.new 1)) }
@@ -174,7 +175,7 @@ fn step_stripes<R: Rack>(core: &mut Core<R>, most: u32) -> Result<u32, Two>
 // Moves the next units, at most `most`: cells and then stripes, while no disk is out.
 fn step_units<R: Rack>(core: &mut Core<R>, most: u32) -> Result<u32, Two>
     requires can { CanMoveUnits core.old }
-    requires epoch { (meta_of core.old).epoch + most < 2 ^ 63 }
+    requires epoch { (meta_of core.old).epoch + most < epoch_limit }
     ensures steps { IfOk result (λ count.
         StepsOn R.slot_count R.slot core.old core.new most (most + 1) count (MovesUpTo R.slot_count
         core.old core.new (AreUnitsDone (meta_of core.new) (core_table core.new)) most count)
@@ -197,7 +198,7 @@ fn step_units<R: Rack>(core: &mut Core<R>, most: u32) -> Result<u32, Two>
 fn step_whole<R: Rack>(core: &mut Core<R>, most: u32) -> Result<u32, Two>
     requires serving { IsCoreServing R.slot_count R.slot core.old }
     requires nothing { batch_of core.old ≡ [] }
-    requires epoch { (meta_of core.old).epoch + most < 2 ^ 63 }
+    requires epoch { (meta_of core.old).epoch + most < epoch_limit }
     ensures steps { IfOk result (λ count. StepsOn R.slot_count R.slot core.old core.new most
         (most + 1) count ((meta_of core.old).out ≡ No → MovesUpTo R.slot_count core.old core.new
         (AreUnitsDone (meta_of core.new) (core_table core.new)) most count)
@@ -231,7 +232,7 @@ pub fn units_left<R: Rack>(core: &Core<R>) -> u32
 /// disk is lost, no more is moved.
 pub fn step<R: Rack>(core: &mut Core<R>, units: u32) -> Result<Moved, Two>
     requires serving { IsCoreServing R.slot_count R.slot core.old }
-    requires epoch { (meta_of core.old).epoch < 2 ^ 63 - 2 ^ 32 - 2 }
+    requires epoch { (meta_of core.old).epoch < epoch_limit - 2 ^ 32 - 2 }
     ensures serves { OnOk result (ServesOn R.slot_count R.slot core.old core.new (units + 2)) }
     ensures few { IfOk result (λ moved. moved.units ≤ units) }
     // The units moved are the next ones by the state of the machine; where no disk was lost they

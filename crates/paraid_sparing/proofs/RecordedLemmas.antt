@@ -12,7 +12,7 @@ use Rattle.paraid_record.specs.declared.meta.Setup.{Setup}
 use Rattle.paraid_serve.specs.Stretch.{Turn, TurnsLead, turn_calls, turn_with}
 use Rattle.paraid_session.specs.Turn.{IsAnswered, IsTurn, Point, replaced_by}
 use Rattle.paraid_session.specs.Turn.IsTurn.{again, answered, bad, two as second_loss, worn}
-use Rattle.paraid_session.specs.Ups.{up_count}
+use Rattle.paraid_session.specs.Ups.{spin_up_count}
 use Rattle.paraid_session.specs.Watch.{Each, IsAllowed, Watch, watch}
 use Rattle.paraid_spare.specs.Pools.{slot_spin_ups}
 use Rattle.paraid_spare.proofs.SpinLemmas.{slot_spin_ups-append}
@@ -23,7 +23,7 @@ use Rattle.paraid_sparing.specs.Spinning.{AreBesideOne, AreSpunByAnswers, is_sec
 use Rattle.paraid_sparing.proofs.MachineLemmas.{replace_less, step_grows}
 use Rattle.paraid_sparing.proofs.SpinLemmas.{calls_then, trace_covers}
 
-slots_are : (cs : List Call) (d : ℕ) → slot_spin_ups cs d ≡ up_count d cs
+slots_are : (cs : List Call) (d : ℕ) → slot_spin_ups cs d ≡ spin_up_count d cs
 unfolding slot_spin_ups
 slots_are [] d = refl
 slots_are (ReadCall e p done ∷ cs) d = let x = slots_are cs d in omega (arith, x)
@@ -37,7 +37,7 @@ other_disk : (e d n : ℕ) → e < n → n ≤ d → ◌≡◌ {A = ℕ} (if e =
 other_disk e d n low past = grind (arith, nat_tests)
 
 -- no disk past those of the array is spun up
-past_none : (P : Watch → Type 0) (setup : Setup) (asked : Option ℕ) (w : Watch) (cs : List Call) (d : ℕ) → Each P (IsAllowed setup asked) w cs → setup.geometry.disks ≤ d → up_count d cs ≡ 0
+past_none : (P : Watch → Type 0) (setup : Setup) (asked : Option ℕ) (w : Watch) (cs : List Call) (d : ℕ) → Each P (IsAllowed setup asked) w cs → setup.geometry.disks ≤ d → spin_up_count d cs ≡ 0
 past_none P setup asked w [] d each past = refl
 past_none P setup asked w (ReadCall e p done ∷ cs) d each past = let x = past_none P setup asked (watch (ReadCall e p done) w) cs d each.2 past in omega (arith, x)
 past_none P setup asked w (WriteCall e p b done ∷ cs) d each past = let x = past_none P setup asked (watch (WriteCall e p b done) w) cs d each.2 past in omega (arith, x)
@@ -83,7 +83,7 @@ answered_spun slots setup p Energy answer calls q a d = by_answer slots setup p 
 answered_spun slots setup p Bad answer calls q a d = by_answer slots setup p Bad answer calls q a d
 
 none_made : (d n : ℕ) (calls : List Call) → calls ≡ [] → slot_spin_ups calls d ≤ n
-none_made d n calls is = let s = slots_are calls d in let z : up_count d calls ≡ 0 = ap (up_count d) is in omega (arith, s, z)
+none_made d n calls is = let s = slots_are calls d in let z : spin_up_count d calls ≡ 0 = ap (spin_up_count d) is in omega (arith, s, z)
 
 turn_spun : (slots : ℕ) (setup : Setup) (p : Point) (event : Event) (answer : Answer) (calls : List Call) (q : Point) → IsTurn slots setup p event answer calls q → is_second_loss answer ≡ false → (d : ℕ) → slot_spin_ups calls d ≤ may_spin event answer d
 turn_spun slots setup p event answer calls q (answered going not_bad a) one d = answered_spun slots setup p event answer calls q a d

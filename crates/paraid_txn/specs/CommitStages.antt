@@ -17,7 +17,7 @@ use Rattle.paraid_image.specs.Batches.{batch_blocks}
 use Rattle.paraid_image.specs.Standing.{overlaid_block, other_log}
 
 -- What a commit does: the disks with which it begins, the batch, the meta that it brings, the
--- blocks that spell meta and targets, the log disk that it leaves alone, if any, and the log disk
+-- blocks that spell meta and targets, the disk whose log it leaves alone, if any, and the log disk
 -- whose gate it opens first.
 pub record Job : Type 0 where
   pub start : Disks
@@ -60,7 +60,7 @@ pub record IsSpelled (j : Job) : Type 0 where
   pub list : j.list.bytes ≡ targets_bytes (targets j.batch)
   pub first : j.first < 2
 
--- the log disk that the commit leaves alone
+-- the disk whose log the commit leaves alone
 abbrev pub job_named : Job → Option ℕ
 job_named j = j.left
 

@@ -23,19 +23,19 @@ pub data SetsWitness (x : ℕ) (opened : Bool) (cs : List Call) : Type 0 where
   ended : (b : Block) (done : Bool)
       → is_open b ≡ opened → cs ≡ Write 2 x b true ∷ Sync 2 done ∷ [] → SetsWitness x opened cs
 
--- the place can not be written: disk 2 is skipped, does not spin, or is too small
+-- the place cannot be written: disk 2 is skipped, does not spin, or is too small
 pub data CannotSet (slot : ℕ → Slot) (skip : Option ℕ) (place : ℕ) : Type 0 where
   is_skipped : skip ≡ Some 2 → CannotSet slot skip place
   not_spinning : (slot 2).power ≢ Spinning → CannotSet slot skip place
   too_small : (slot 2).size ≤ place → CannotSet slot skip place
 
--- the witness is set, or its place can not be written
+-- the witness is set, or its place cannot be written
 pub data MaySetWitness
     (slot : ℕ → Slot) (skip : Option ℕ) (x : ℕ) (opened : Bool) (cs : List Call) : Type 0 where
   cannot : CannotSet slot skip x → cs ≡ [] → MaySetWitness slot skip x opened cs
   sets : SetsWitness x opened cs → MaySetWitness slot skip x opened cs
 
--- a witness, if one is to be set, is set or its place can not be written; else there is no call
+-- a witness, if one is to be set, is set or its place cannot be written; else there is no call
 abbrev pub MaySetAny : (ℕ → Slot) → Option ℕ → Option Witness → List Call → Type 0
 MaySetAny slot skip None cs = cs ≡ []
 MaySetAny slot skip (Some w) cs = MaySetWitness slot skip w.disk w.opened cs
@@ -122,6 +122,6 @@ LeavesPlace d p (SpinUp e done) = Unit {0}
 LeavesPlace d p (Attach e size done) = d ≢ e
 
 -- none of these calls does
-abbrev pub LeavePlace : ℕ → ℕ → List Call → Type 0
-LeavePlace d p [] = Unit {0}
-LeavePlace d p (c ∷ cs) = LeavesPlace d p c × LeavePlace d p cs
+abbrev pub EachLeavesPlace : ℕ → ℕ → List Call → Type 0
+EachLeavesPlace d p [] = Unit {0}
+EachLeavesPlace d p (c ∷ cs) = LeavesPlace d p c × EachLeavesPlace d p cs

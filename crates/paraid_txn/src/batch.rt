@@ -17,9 +17,7 @@ use std::marker::Model;
 
 /// A batch holds its 96 targets, and this one is new.
 #[derive(Clone, Copy)]
-pub struct Full {
-    pub count: u8,
-}
+pub struct Full;
 
 #[derive(Drop)]
 struct Staged {
@@ -77,9 +75,8 @@ impl Batch {
     pub fn add(&mut self, disk: DiskNo, place: Place, block: &Block) -> Result<(), Full>
         ensures ok { OnOk result (self.new
             ≡ with_target self.old (record { disk = disk; place = place }) block.now) }
-        ensures full { IfErr result (λ full. (full.count ≡ batch_room)
-            × (length self.old ≡ batch_room) × (names_place self.old disk place ≡ false)
-            × (self.new ≡ self.old)) }
+        ensures full { IfErr result (λ full. (length self.old ≡ batch_room)
+            × (names_place self.old disk place ≡ false) × (self.new ≡ self.old)) }
         ensures room { OnOk result
             ((names_place self.old disk place ≡ true) ⊎ (length self.old < batch_room)) }
     {
@@ -89,9 +86,7 @@ impl Batch {
             return Ok(());
         }
         if self.staged.len() == BATCH_ROOM {
-            return Err(Full {
-                count: BATCH_ROOM as u8,
-            });
+            return Err(Full);
         }
         self.staged.push_reserved(Staged {
             target,

@@ -7,7 +7,7 @@ ghost use Rattle.paraid_rack.specs.declared.call.Call.TheVariants.{Read, Sync, W
 ghost use Rattle.paraid_rack.specs.declared.call.Power.TheVariants.{Absent};
 ghost use Rattle.paraid_rack.specs.Disks.{is_present};
 ghost use Rattle.paraid_txn.specs.CommitPart.{CommitPart, SyncedPart};
-ghost use Rattle.paraid_txn.specs.Losses.{StaySyncedBut, CanWrite, FollowsAnswer, IsSyncedAt, MayDo};
+ghost use Rattle.paraid_txn.specs.Losses.{StaySynced, StaySyncedBut, CanWrite, FollowsAnswer, IsSyncedAt, MayDo};
 ghost use Rattle.paraid_txn.specs.PutSynced.{MayPutSynced};
 ghost use Rattle.paraid_txn.specs.Ready.{IsLogReady};
 ghost use Rattle.paraid_txn.specs.Uses.{IsThisCall, UsesLog};
@@ -85,7 +85,7 @@ pub fn sync_slot<R: Rack>(
         (λ done. Sync disk done) }
     ensures part { CommitPart R.Rack (IsThisCall skip disk (λ done. Sync disk done))
         losses.old losses.new rack.old rack.new result }
-    ensures still_synced { StaySyncedBut (λ d. ⊥) (R.slot rack.old) (R.slot rack.new) }
+    ensures still_synced { StaySynced (R.slot rack.old) (R.slot rack.new) }
     ensures synced { skip ≢ Some disk → IsSyncedAt (R.slot rack.new) disk }
 {
     if is_passed(rack, skip, disk) {
@@ -134,7 +134,7 @@ pub fn take<R: Rack>(
         (λ done. Read disk place done) }
     ensures part { CommitPart R.Rack (IsThisCall skip disk (λ done. Read disk place done))
         losses.old losses.new rack.old rack.new result }
-    ensures still_synced { StaySyncedBut (λ d. ⊥) (R.slot rack.old) (R.slot rack.new) }
+    ensures still_synced { StaySynced (R.slot rack.old) (R.slot rack.new) }
     ensures bytes { result ≡ Ok true → (t : Trail) → R.told rack.old ≡ Some t
         → into.new ≡ (now t).block disk place }
     ensures read { result ≡ Ok true → skip ≢ Some disk }

@@ -42,7 +42,7 @@ ghost use Rattle.paraid_rack.specs.Disks.{Disks, is_present};
 ghost use Rattle.paraid_rack.specs.declared.call.Power.TheVariants.{Absent};
 ghost use Rattle.paraid_rack.specs.Trail.{run};
 ghost use Rattle.paraid_txn.specs.Borne.{IsBorneNow};
-ghost use Rattle.paraid_txn.specs.Witness.{BearsAtEnd, CannotSet, IsKnown, IsNoSecond, KeepsBorne, LeavePlace, MaySetAny, NoneJoins, SetsAfter, SetsBefore};
+ghost use Rattle.paraid_txn.specs.Witness.{BearsAtEnd, CannotSet, IsKnown, IsNoSecond, KeepsBorne, EachLeavesPlace, MaySetAny, NoneJoins, SetsAfter, SetsBefore};
 ghost use Rattle.paraid_txn.specs.declared.bearing.Witness.{Witness as WitnessType};
 ghost use Rattle.paraid_image.specs.Batches.{names_disk};
 ghost use Rattle.paraid_txn.specs.CommitStages.{CloseStage, FirstStage, HoldsEarly, HoldsWitnessed, LastStage, IsSpelled, Job, HoldsLate, LayIn, LogStage, LogIn, MarkStage, OpenStage, SyncIn, HoldsWhole, job_gone, job, job_named};
@@ -459,7 +459,8 @@ fn run_witnessed<R: Rack>(
     ensures knows { IfOk result (λ borne. IsNoSecond losses.new.lost meta.now
         → IsKnown (R.slot rack.new) (or_else losses.new.lost (named_out meta.now.out)) borne) }
     ensures once { NoneJoins out.named (named_out meta.now.out) → (x : ℕ) → x < 2
-        → out.borne ≡ Some x → Ran (R.told rack.old) (R.told rack.new) (λ s cs. LeavePlace 2 x cs) }
+        → out.borne ≡ Some x
+        → Ran (R.told rack.old) (R.told rack.new) (λ s cs. EachLeavesPlace 2 x cs) }
 {
     let borne = bear_before(rack, losses, meta, out)?;
     run(rack, losses, meta, batch, list, spelled, first)?;
@@ -560,7 +561,7 @@ impl<R: Rack> Store<R> {
             (or_else lost (named_out meta.now.out)) (borne_of self.new)) }
         ensures once { NoneJoins (named_of self.old) (named_out meta.now.out)
             → (x : ℕ) → x < 2 → borne_of self.old ≡ Some x → Ran (R.told (store_rack self.old))
-            (R.told (store_rack self.new)) (λ start calls. LeavePlace 2 x calls) }
+            (R.told (store_rack self.new)) (λ start calls. EachLeavesPlace 2 x calls) }
 
         // At each moment the old contents or the new ones; at the end only these.
         ensures any_moment { (before : MetaType) → named_of self.old ≡ named_out before.out

@@ -1,8 +1,8 @@
 //! A disk is taken out.
-ghost use Rattle.std.specs.Prelude.{◌≡◌, ℕ, ◌+◌, ◌^◌, ◌<◌, ◌≤◌, ◌⊎◌, [], None, Ok, Some, OnOk, IfErr, IfOk};
+ghost use Rattle.std.specs.Prelude.{◌≡◌, ℕ, ◌+◌, ◌<◌, ◌≤◌, ◌⊎◌, [], None, Ok, Some, OnOk, IfErr, IfOk};
 ghost use Rattle.paraid_base.specs.declared.event.Event.TheVariants.{Fail as FailEvent};
 ghost use Rattle.paraid_base.specs.declared.state.Out.TheVariants.{Gone};
-ghost use Rattle.paraid_base.specs.Log.{worn_at};
+ghost use Rattle.paraid_base.specs.Log.{worn_at, epoch_limit};
 ghost use Rattle.paraid_core.specs.Cores.{batch_of, core_down, core_rack, core_table, meta_of};
 ghost use Rattle.paraid_core.specs.Down.{IsDownAfter};
 ghost use Rattle.paraid_core.specs.Steps.{IsMarkedFrom};
@@ -51,7 +51,7 @@ fn commit_writes<R: Rack>(core: &mut Core<R>) -> Result<(), Two>
 // Marks a disk as gone, where no other one is out, and commits that.
 fn mark_gone<R: Rack>(core: &mut Core<R>, disk: DiskNo) -> Result<(), Two>
     requires service { IsInService R.slot_count R.slot core.old }
-    requires epoch { (meta_of core.old).epoch < 2 ^ 63 }
+    requires epoch { (meta_of core.old).epoch < epoch_limit }
     requires disk { disk < (meta_of core.old).setup.geometry.disks }
     requires alone { (x : ℕ) → named_out (meta_of core.old).out ≡ Some x → x ≡ disk }
     ensures stays { OnOk result (StaysInService core.old core.new) }

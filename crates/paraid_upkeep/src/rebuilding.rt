@@ -1,9 +1,9 @@
 //! A disk that is out is replaced, and the ticks of its rebuild.
-ghost use Rattle.std.specs.Prelude.{◌≡◌, ℕ, ◌+◌, ◌^◌, ◌<◌, ◌≤◌, true, false, List, [], None, Ok, Some, OnOk, IfOk, IfErr, if◌then◌else◌};
+ghost use Rattle.std.specs.Prelude.{◌≡◌, ℕ, ◌+◌, ◌<◌, ◌≤◌, true, false, List, [], None, Ok, Some, OnOk, IfOk, IfErr, if◌then◌else◌};
 ghost use Rattle.paraid_base.specs.declared.state.Out.TheVariants.{Fresh, Gone, No};
 ghost use Rattle.paraid_base.specs.declared.state.TickEvent.TheVariants.{Gone as GoneInTick, Moving, Rebuilt};
 ghost use Rattle.paraid_base.specs.History.{History};
-ghost use Rattle.paraid_base.specs.Log.{worn_at};
+ghost use Rattle.paraid_base.specs.Log.{worn_at, epoch_limit};
 ghost use Rattle.paraid_base.specs.States.{rebuilt_count};
 ghost use Rattle.paraid_base.specs.Told.{HasRisen};
 ghost use Rattle.paraid_core.specs.Cores.{batch_of, core_down, core_rack, core_table, meta_of, store_of};
@@ -71,7 +71,7 @@ fn come_back<R: Rack>(core: &mut Core<R>, disk: DiskNo) -> Result<bool, Two>
     requires can { CanRebuild core.old disk }
     requires nothing { batch_of core.old ≡ [] }
     requires disk { disk < (meta_of core.old).setup.geometry.disks }
-    requires epoch { (meta_of core.old).epoch < 2 ^ 63 }
+    requires epoch { (meta_of core.old).epoch < epoch_limit }
     ensures serves { OnOk result (LeavesInService R.slot_count R.slot core.old core.new) }
     ensures commits { OnOk result (CommitsAtMost core.old core.new 1) }
     ensures lost { result ≡ Ok false
@@ -102,7 +102,7 @@ fn come_back<R: Rack>(core: &mut Core<R>, disk: DiskNo) -> Result<bool, Two>
 fn rejoin_disk<R: Rack>(core: &mut Core<R>, disk: DiskNo) -> Result<bool, Two>
     requires can { CanRebuild core.old disk }
     requires disk { disk < (meta_of core.old).setup.geometry.disks }
-    requires epoch { (meta_of core.old).epoch + 1 < 2 ^ 63 }
+    requires epoch { (meta_of core.old).epoch + 1 < epoch_limit }
     ensures serves { OnOk result (LeavesInService R.slot_count R.slot core.old core.new) }
     ensures commits { OnOk result (CommitsAtMost core.old core.new 2) }
     ensures rejoined { result ≡ Ok true → meta_of core.new ≡ record (meta_of core.old)
@@ -147,7 +147,7 @@ fn rejoin_disk<R: Rack>(core: &mut Core<R>, disk: DiskNo) -> Result<bool, Two>
 fn end_rebuild<R: Rack>(core: &mut Core<R>, disk: DiskNo) -> Result<bool, Two>
     requires can { CanRebuild core.old disk }
     requires disk { disk < (meta_of core.old).setup.geometry.disks }
-    requires epoch { (meta_of core.old).epoch + 2 < 2 ^ 63 }
+    requires epoch { (meta_of core.old).epoch + 2 < epoch_limit }
     ensures serves { OnOk result (LeavesInService R.slot_count R.slot core.old core.new) }
     ensures commits { OnOk result (CommitsAtMost core.old core.new 3) }
     ensures rejoined { result ≡ Ok true → meta_of core.new ≡ record (meta_of core.old)
@@ -188,7 +188,7 @@ fn move_units<R: Rack>(core: &mut Core<R>, disk: DiskNo, end: u32) -> Result<boo
     requires from { rebuilt_count (meta_of core.old).out ≤ end }
     requires limit { end
         ≤ units_of_rebuild (meta_of core.old).setup.geometry (meta_of core.old).gear disk }
-    requires epoch { (meta_of core.old).epoch + 2 < 2 ^ 63 }
+    requires epoch { (meta_of core.old).epoch + 2 < epoch_limit }
     ensures serves { OnOk result (LeavesInService R.slot_count R.slot core.old core.new) }
     ensures commits { OnOk result (CommitsAtMost core.old core.new 3) }
     ensures moved { result ≡ Ok true → meta_of core.new ≡ record (meta_of core.old)

@@ -212,8 +212,8 @@ pub fn read_others<R: Rack>(
     Ok(())
 }
 
-/// Reads the value of a cell where this disk is out, or none. It refuses where another disk has
-/// failed.
+/// Reads the value of a cell where this disk is out, or none. It answers another disk where that
+/// has failed.
 pub fn read_value<R: Rack>(
     store: &mut Store<R>,
     batch: &Batch,

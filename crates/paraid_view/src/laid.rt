@@ -37,7 +37,7 @@ fn find_staged<'a>(
     batch.get(disk, place)
 }
 
-/// Reads a block with all that is staged laid over. It refuses where the disk has failed.
+/// Reads a block with all that is staged laid over. It answers the disk where that has failed.
 pub fn read_laid<R: Rack>(
     store: &mut Store<R>,
     batch: &Batch,

@@ -1,4 +1,4 @@
-//! Where the value of a cell lives: on its hard place, or in its soft copy.
+//! Where the value of a cell lives: on its own place, or in its copy.
 ghost use Rattle.std.specs.Prelude.{◌≡◌, ℕ, ◌<◌, ◌≤◌, Option, length, false};
 ghost use Rattle.paraid_record.specs.Range.{IsInRange};
 ghost use Rattle.paraid_image.specs.Spot.{is_hard as hard_in};

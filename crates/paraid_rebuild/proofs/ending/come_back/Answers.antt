@@ -24,6 +24,7 @@ use Rattle.paraid_rebuild.proofs.LossLemmas.{LosesBack, join_lost, tells_by}
 use Rattle.paraid_rebuild.proofs.ResultLemmas.{back_is, gone_is}
 use Rattle.paraid_rebuild.proofs.ending.come_back.Goals as goal
 use Rattle.paraid_shift.proofs.AnswerLemmas.{none_done, none_done_as}
+use Rattle.paraid_base.specs.Log.{epoch_limit}
 
 pub rejoin-requires-clause-there : goal.rejoin-requires-clause-there
 rejoin-requires-clause-there g c d low = all_there g.R.Rack.slot_count g.R.Rack.slot c.args.core.now c.args.disk c.requires.can.serving c.requires.can.fresh c.requires.can.spins d low
@@ -156,7 +157,7 @@ commit-requires g c =
     record {
       ready = marks.marks.ready;
       committable = record {
-        epoch = subst (λ (e : ℕ). e < 2 ^ 63) (sym (ap (λ (m : Meta). m.epoch) marks.meta)) q.epoch;
+        epoch = subst (λ (e : ℕ). e < epoch_limit) (sym (ap (λ (m : Meta). m.epoch) marks.meta)) q.epoch;
         copies_synced = copies_kept a b (ap (λ (m : Meta). m.setup) marks.meta) marks.marks.staged.copied q.can.serving.copies_synced;
       };
     }

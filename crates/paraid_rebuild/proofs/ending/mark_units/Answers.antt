@@ -28,6 +28,7 @@ use Rattle.paraid_rebuild.proofs.LossLemmas.{LosesMark, commit_lost, tells_by}
 use Rattle.paraid_rebuild.proofs.ResultLemmas.{back_is, gone_is}
 use Rattle.paraid_rebuild.proofs.ending.mark_units.Goals as goal
 use Rattle.paraid_shift.proofs.AnswerLemmas.{none_done, none_done_as}
+use Rattle.paraid_base.specs.Log.{epoch_limit}
 
 pub returns-in_err-commit : goal.returns-in_err-commit
 returns-in_err-commit g c =
@@ -171,7 +172,7 @@ commit-requires g c =
     record {
       ready = marks.marks.ready;
       committable = record {
-        epoch = subst (λ (e : ℕ). e < 2 ^ 63) (sym (ap (λ (m : Meta). m.epoch) is_meta)) q.epoch;
+        epoch = subst (λ (e : ℕ). e < epoch_limit) (sym (ap (λ (m : Meta). m.epoch) is_meta)) q.epoch;
         copies_synced = copies_kept a b (ap (λ (m : Meta). m.setup) is_meta) marks.marks.staged.copied q.can.serving.copies_synced;
       };
     }

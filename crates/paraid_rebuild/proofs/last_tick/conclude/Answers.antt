@@ -35,6 +35,7 @@ use Rattle.paraid_base.specs.History.{History}
 use Rattle.paraid_rack.specs.Told.{CrashTriple, Ran}
 use Rattle.paraid_rebuild.proofs.last_tick.conclude.Goals as goal
 use Rattle.paraid_shift.proofs.AnswerLemmas.{none_done, none_done_as}
+use Rattle.paraid_base.specs.Log.{epoch_limit}
 
 pub returns-in_err-copied : goal.returns-in_err-copied
 returns-in_err-copied g c =
@@ -270,5 +271,5 @@ come_back-requires g c =
         spins = (done.same (ap Ok c.if-not-copied.false)).spins;
       };
       nothing = done.leaves.batch ∙ q.nothing;
-      epoch = subst (λ (m : Meta). m.epoch < 2 ^ 63) back q.epoch;
+      epoch = subst (λ (m : Meta). m.epoch < epoch_limit) back q.epoch;
     }

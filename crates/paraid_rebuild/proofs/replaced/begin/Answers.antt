@@ -23,13 +23,14 @@ use Rattle.paraid_base.proofs.ToldLemmas.{HasRisen-sooner}
 use Rattle.paraid_base.specs.Regions.{disk_size}
 use Rattle.paraid_base.specs.declared.state.Out.{Out}
 use Rattle.paraid_shift.proofs.AnswerLemmas.{none_done, none_done_as}
+use Rattle.paraid_base.specs.Log.{epoch_limit}
 
 pub bring_fresh-requires : goal.bring_fresh-requires
 bring_fresh-requires g c =
     let was = c.in_ok-commit_gone.ensures in
     record {
       committed = was.serves;
-      epoch = subst (λ (e : ℕ). e < 2 ^ 63) (sym (ap (λ (m : Meta). m.epoch) was.meta.is)) c.requires.epoch;
+      epoch = subst (λ (e : ℕ). e < epoch_limit) (sym (ap (λ (m : Meta). m.epoch) was.meta.is)) c.requires.epoch;
       gone = ap (λ (m : Meta). m.out) was.meta.is;
     }
 

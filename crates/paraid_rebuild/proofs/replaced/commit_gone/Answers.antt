@@ -25,6 +25,7 @@ use Rattle.paraid_rebuild.proofs.LossLemmas.{LosesBegun, commit_lost, tells_by}
 use Rattle.paraid_rebuild.proofs.replaced.commit_gone.Goals as goal
 use Rattle.paraid_txn.specs.Losses.{OnlyLosesSlots}
 use Rattle.paraid_shift.proofs.AnswerLemmas.{none_done}
+use Rattle.paraid_base.specs.Log.{epoch_limit}
 
 pub returns-in_err-commit : goal.returns-in_err-commit
 returns-in_err-commit g c =
@@ -188,7 +189,7 @@ commit-requires g c =
     record {
       ready = clears.marks.ready;
       committable = record {
-        epoch = subst (λ (e : ℕ). e < 2 ^ 63) (sym (ap (λ (m : Meta). m.epoch) clears.meta ∙ ap (λ (m : Meta). m.epoch) marks.meta)) q.epoch;
+        epoch = subst (λ (e : ℕ). e < epoch_limit) (sym (ap (λ (m : Meta). m.epoch) clears.meta ∙ ap (λ (m : Meta). m.epoch) marks.meta)) q.epoch;
         copies_synced = copies_kept a b (ap (λ (m : Meta). m.setup) clears.meta ∙ ap (λ (m : Meta). m.setup) marks.meta) (clears.marks.staged.copied ∙ marks.marks.staged.copied) q.serving.copies_synced;
       };
     }

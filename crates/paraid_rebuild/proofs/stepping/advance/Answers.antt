@@ -33,6 +33,7 @@ use Rattle.paraid_event.specs.Steps.{StepsInEvent}
 use Rattle.paraid_record.specs.Range.{rebuild_units}
 use Rattle.paraid_rebuild.proofs.stepping.advance.Goals as goal
 use Rattle.paraid_shift.proofs.AnswerLemmas.{none_done, none_done_as}
+use Rattle.paraid_base.specs.Log.{epoch_limit}
 
 pub returns-in_err-copied : goal.returns-in_err-copied
 returns-in_err-copied g c =
@@ -249,5 +250,5 @@ mark_units-requires g c =
       };
       nothing = done.leaves.batch ∙ q.nothing;
       limit = subst (λ (m : Meta). c.args.end ≤ rebuild_units m.setup.geometry m.gear c.args.disk) back q.limit;
-      epoch = subst (λ (m : Meta). m.epoch < 2 ^ 63) back q.epoch;
+      epoch = subst (λ (m : Meta). m.epoch < epoch_limit) back q.epoch;
     }

@@ -20,6 +20,7 @@ use Rattle.paraid_rebuild.proofs.ReplacementEventLemmas.{commit_steps, commit_to
 use Rattle.paraid_rebuild.proofs.LossLemmas.{LosesSteps, commit_lost_steps, lost_same, tells_by}
 use Rattle.paraid_rebuild.proofs.stepping.commit_lost.Goals as goal
 use Rattle.paraid_shift.proofs.AnswerLemmas.{none_done}
+use Rattle.paraid_base.specs.Log.{epoch_limit}
 
 pub returns-in_err-commit : goal.returns-in_err-commit
 returns-in_err-commit g c =
@@ -132,7 +133,7 @@ commit-requires g c =
     record {
       ready = marks.marks.ready;
       committable = record {
-        epoch = subst (λ (e : ℕ). e < 2 ^ 63) (sym (ap (λ (m : Meta). m.epoch) marks.meta)) q.epoch;
+        epoch = subst (λ (e : ℕ). e < epoch_limit) (sym (ap (λ (m : Meta). m.epoch) marks.meta)) q.epoch;
         copies_synced = copies_kept a b (ap (λ (m : Meta). m.setup) marks.meta) marks.marks.staged.copied q.serving.copies_synced;
       };
     }

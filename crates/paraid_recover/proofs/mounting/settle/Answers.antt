@@ -15,7 +15,7 @@ use Rattle.paraid_view.proofs.TwoLemmas.{left_spared}
 use Rattle.paraid_recover.specs.Bearing.{BearsOnce}
 use Rattle.paraid_recover.specs.EndOfMount.{IsMarkAtMoment}
 use Rattle.paraid_recover.specs.HeldMoments.{Recovers}
-use Rattle.paraid_session.specs.Powers.{AreAllSynced}
+use Rattle.paraid_session.specs.Powers.{AreSlotsSynced}
 use Rattle.paraid_recover.proofs.BearerLemmas.{bears_fit}
 use Rattle.paraid_recover.proofs.SyncedLemmas.{log_kept, marked_synced, sync_kept}
 use Rattle.paraid_recover.proofs.MarkMomentLemmas.{mark_before, mark_by_slots, mark_later}
@@ -321,7 +321,7 @@ returns-in-Ok g c = record {
         (fit_with_mark _ _ (slot_3 g at) m o refl (fits g at) c.mark_out.ensures.kept.powers c.requires.can.few
         (subst (λ (x : Meta). IsOneOut (n g at) (named_out x.out) (slot_3 g at)) c.in-Ok.ensures.given one)));
     synced =
-        subst (λ (x : Meta). AreAllSynced x (g.R.Rack.slot (store_rack c.mark_out.new.store))) (sym c.in-Ok.ensures.given)
+        subst (λ (x : Meta). AreSlotsSynced x (g.R.Rack.slot (store_rack c.mark_out.new.store))) (sym c.in-Ok.ensures.given)
         (marked_synced (g.R.Rack.slot (store_rack c.sync_all.new.self)) (g.R.Rack.slot (store_rack c.mark_out.new.store)) c.args.meta.now c.gone.result c.read_map.new.store.disks c.gone.ensures
         (c.in_default.ensures.read.same.disks ∙ c.requires.can.disks) c.in_default-sync_all.ensures.synced c.mark_out.ensures.kept.powers c.in-Ok.ensures.synced);
   };

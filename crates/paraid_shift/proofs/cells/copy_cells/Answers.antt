@@ -34,9 +34,9 @@ pub returns-in_err-done : goal.returns-in_err-done
 returns-in_err-done g c =
     let a = c.args.core.now in
     let b = c.loop-at.core in
-    let new = c.sync_cell.new.self in
+    let new = c.copy_cell.new.self in
     let was = c.loop-at.invariant in
-    let all = c.sync_cell.ensures in
+    let all = c.copy_cell.ensures in
     let from = c.from_residual in
     record {
       copies = record {
@@ -61,9 +61,9 @@ pub returns-then-not-done : goal.returns-then-not-done
 returns-then-not-done g c =
     let a = c.args.core.now in
     let b = c.loop-at.core in
-    let new = c.sync_cell.new.self in
+    let new = c.copy_cell.new.self in
     let was = c.loop-at.invariant in
-    let all = c.sync_cell.ensures in
+    let all = c.copy_cell.ensures in
     let done = c.in_ok-done.ensures in
     let cells = are_copied_before a.meta c.loop-at.group.row c.loop-at.group.disk in
     record {
@@ -175,7 +175,7 @@ pub loop-at-preserved : goal.loop-at-preserved
 loop-at-preserved g c =
     let a = c.args.core.now in
     let b = c.loop-at.core in
-    let new = c.sync_cell.new.self in
+    let new = c.copy_cell.new.self in
     let was = c.loop-at.invariant in
     let call = c.in_ok-done.ensures in
     let first = c.in-Some.ensures.first in
@@ -187,14 +187,14 @@ loop-at-preserved g c =
       disk = let one = more.disk in let low = c.in-Some.ensures.disk in omega (arith, one, low);
       start = λ none. absurd (let one = more.count in omega (arith, one, none));
       before = λ some. one_before a.meta b.meta a.dirty b.dirty _ _ _ _ _ _ more.row more.disk was.meta was.leaves.table first;
-      calls = calls_then _ _ _ _ was.calls (data_same b.meta a.meta was.meta _ _ c.sync_cell.ensures.copies.calls);
-      marks = marks_then _ _ _ _ _ _ was.marks call.copies.losses.marks was.leaves.spared c.sync_cell.ensures.copies.losses.spared;
+      calls = calls_then _ _ _ _ was.calls (data_same b.meta a.meta was.meta _ _ c.copy_cell.ensures.copies.calls);
+      marks = marks_then _ _ _ _ _ _ was.marks call.copies.losses.marks was.leaves.spared c.copy_cell.ensures.copies.losses.spared;
       copied = copied_at g.R.Rack.slot_count g.R.Rack.slot g.R.Rack.told a new _ _ _ _ more.row more.disk
           (copies_more g.R.Rack.slot_count g.R.Rack.slot g.R.Rack.told a b new was.leaves _ _ _ _ was.meta call.copies.leaves.table first was.copied (λ h lo cells. (call.held cells).copied (ap Ok c.if-not-done.false) h lo));
     }
 
-pub sync_cell-requires : goal.sync_cell-requires
-sync_cell-requires g c =
+pub copy_cell-requires : goal.copy_cell-requires
+copy_cell-requires g c =
     let was = c.loop-at.invariant in
     let q = c.requires in
     let first = c.in-Some.ensures.first in

@@ -23,6 +23,7 @@ use Rattle.paraid_base.specs.declared.state.Out.TheVariants.{No}
 use Rattle.paraid_image.specs.Out.{named_out}
 use Rattle.paraid_shift.proofs.OutcomeLemmas.{none_named}
 use Rattle.paraid_shift.proofs.ending.commit_gear.Goals as goal
+use Rattle.paraid_base.specs.Log.{epoch_limit}
 
 pub returns-in_err-commit : goal.returns-in_err-commit
 returns-in_err-commit g c =
@@ -135,7 +136,7 @@ commit-requires g c =
     record {
       ready = marks.marks.ready;
       committable = record {
-        epoch = subst (λ (e : ℕ). e < 2 ^ 63) (sym (ap (λ (m : Meta). m.epoch) marks.meta)) q.can.epoch;
+        epoch = subst (λ (e : ℕ). e < epoch_limit) (sym (ap (λ (m : Meta). m.epoch) marks.meta)) q.can.epoch;
         copies_synced = copies_kept c.args.core.now c.flip.new.self (ap (λ (m : Meta). m.setup) marks.meta) marks.marks.staged.copied q.can.serving.copies_synced;
       };
     }

@@ -9,6 +9,7 @@ use Rattle.paraid_shift.proofs.OutcomeLemmas.{serves_then}
 use Rattle.paraid_shift.proofs.ServingLemmas.{leaves_array_then}
 use Rattle.paraid_shift.proofs.StepsLemmas.{steps_or_waits_then}
 use Rattle.paraid_shift.proofs.moving.step.Goals as goal
+use Rattle.paraid_base.specs.Log.{epoch_limit}
 
 pub returns-in_err-commit_staged : goal.returns-in_err-commit_staged
 returns-in_err-commit_staged g c =
@@ -26,7 +27,7 @@ returns-in_err-commit_staged g c =
           (λ absent. core_loses_within g.R.Rack.slot_count g.R.Rack.told a b 1 (c.args.units + 2) _ (omega arith) (c.in_err-commit_staged.ensures.rack.loses absent));
     }
 
-low_enough : (a b units : ℕ) → units < 2 ^ 32 → b ≤ a + 1 → a < 2 ^ 63 - 2 ^ 32 - 2 → b + units < 2 ^ 63
+low_enough : (a b units : ℕ) → units < 2 ^ 32 → b ≤ a + 1 → a < epoch_limit - 2 ^ 32 - 2 → b + units < epoch_limit
 low_enough a b units few next low = omega arith
 
 pub step_whole-requires : goal.step_whole-requires

@@ -17,6 +17,7 @@ use Rattle.paraid_shift.proofs.OutcomeLemmas.{serves_none}
 use Rattle.paraid_shift.proofs.ServingLemmas.{leaves_array_none, leaves_array_then, none_away}
 use Rattle.paraid_shift.proofs.StepsLemmas.{core_steps_none, core_steps_within, core_waits_within, marks_committed}
 use Rattle.paraid_shift.proofs.moving.step_stripes.Goals as goal
+use Rattle.paraid_base.specs.Log.{epoch_limit}
 
 lower_than : (m n : Meta) (end : ℕ) → m ≡ n → m.fill < end → n.fill < end
 lower_than m n end same low = subst (λ (z : Meta). z.fill < end) same low
@@ -82,7 +83,7 @@ pub commit-requires : goal.commit-requires
 commit-requires g c =
     let marks = c.in_ok-done.ensures.marks in
     let same : c.move_stripes.new.core.meta.epoch ≡ c.args.core.now.meta.epoch = ap (λ (m : Meta). m.epoch) (marks.filled c.if-not-done.false) in
-    record { serving = marks.serving; epoch = subst (λ (e : ℕ). e < 2 ^ 63) (sym same) c.requires.epoch }
+    record { serving = marks.serving; epoch = subst (λ (e : ℕ). e < epoch_limit) (sym same) c.requires.epoch }
 
 pub overflow_sub-result : goal.overflow_sub-result
 overflow_sub-result g c = below_then _ _ c.if-end-from.false

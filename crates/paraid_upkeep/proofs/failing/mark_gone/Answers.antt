@@ -13,6 +13,7 @@ use Rattle.paraid_upkeep.proofs.ToldLemmas.{extends_core, extends_store}
 use Rattle.paraid_upkeep.proofs.TurnLemmas.{can_mark, commits_taken, taken_lost}
 use Rattle.paraid_upkeep.proofs.FitsLemmas.{fits_lost}
 use Rattle.paraid_upkeep.proofs.failing.mark_gone.Goals as goal
+use Rattle.paraid_base.specs.Log.{epoch_limit}
 
 pub mark_out-requires : goal.mark_out-requires
 mark_out-requires g c = record {
@@ -28,7 +29,7 @@ commit-requires g c =
     record {
       ready = marks.marks.ready;
       committable = record {
-        epoch = subst (λ (m : Meta). m.epoch < 2 ^ 63) (sym marks.meta) c.requires.epoch;
+        epoch = subst (λ (m : Meta). m.epoch < epoch_limit) (sym marks.meta) c.requires.epoch;
         copies_synced = copies_kept c.args.core.now c.mark_out.new.self (ap (λ (m : Meta). m.setup) marks.meta) marks.marks.staged.copied c.requires.service.copies_synced;
       };
     }

@@ -5,7 +5,7 @@ use Rattle.paraid_image.specs.Content.{view_by}
 use Rattle.paraid_image.specs.Spot.{View}
 use Rattle.paraid_image.specs.Standing.{contents}
 use Rattle.paraid_plan.specs.Placed.{ArePlaced}
-use Rattle.paraid_plan.specs.Units.{sync_targets}
+use Rattle.paraid_plan.specs.Units.{clean_targets}
 use Rattle.paraid_plan.proofs.CommitTargetLemmas.{sync_placed}
 use Rattle.paraid_rack.specs.Disks.{is_present}
 use Rattle.paraid_rack.specs.Trail.{now}
@@ -36,14 +36,14 @@ returns g c = record {
       let m = old.meta in
       let map = c.map_block.new.into in
       let v : View = view_by m (now t).power (contents (now t) old.batch) in
-      let draft_is : c.push-3.new.self ≡ sync_targets v c.args.r c.args.d map =
+      let draft_is : c.push-3.new.self ≡ clean_targets v c.args.r c.args.d map =
       drafted c.clear-2.new.self c.push.new.self c.push-2.new.self c.push-3.new.self c.args.r c.args.d c.hard_place.result c.args.value.now map m.setup.geometry
       c.clear-2.ensures c.hard_place.ensures.value c.push.ensures c.push-2.ensures c.push-3.ensures
       ∙ sync_drafted v c.args.r c.args.d c.args.value.now map c.requires.whole is in
       cleaned_keeps (g.R.Rack.slot_count (store_rack old.store)) (named_of old.store) m old.dirty c.clear.new.self old.batch c.take.new.batch c.push-3.new.self old.copied h lo (now t) c.requires.serving.ready.in_range
       (λ d l gone. c.requires.serving.ready.absent d l (ap is_present (sym ((g.met.R.Rack.agrees (store_rack old.store) t tells).power d)) ∙ gone)) k c.args.r c.args.d c.requires.row c.requires.disk c.requires.rises c.requires.whole map
       c.clear.ensures.cells c.map_block.ensures draft_is
-      (c.take.ensures.laid_same (subst (ArePlaced m) (sym {b = sync_targets v c.args.r c.args.d map} draft_is) (sync_placed v c.args.r c.args.d map c.requires.serving.ready.in_range c.requires.row c.requires.disk c.requires.rises c.requires.whole))) c.take.ensures.grows;
+      (c.take.ensures.laid_same (subst (ArePlaced m) (sym {b = clean_targets v c.args.r c.args.d map} draft_is) (sync_placed v c.args.r c.args.d map c.requires.serving.ready.in_range c.requires.row c.requires.disk c.requires.rises c.requires.whole))) c.take.ensures.grows;
 }
 
 pub hard_place-requires : goal.hard_place-requires

@@ -16,7 +16,7 @@ use Rattle.paraid_core.proofs.ReadyLemmas.{some_is}
 use Rattle.paraid_core.proofs.OrderLemmas.{tells_unhurt, lose_tells}
 use Rattle.paraid_image.specs.Out.{named_out}
 use Rattle.paraid_core.proofs.ErrLemmas.{two_lost}
-use Rattle.paraid_core.proofs.staged.Core.sync_cell.Goals as goal
+use Rattle.paraid_core.proofs.staged.Core.copy_cell.Goals as goal
 
 pub returns-in_default : goal.returns-in_default
 returns-in_default g c = record {
