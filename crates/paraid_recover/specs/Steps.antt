@@ -1,5 +1,5 @@
 -- What a step of a mount asks for, and what it leaves of the store and of what was recovered.
-use Rattle.std.specs.Prelude.{◌≡◌, ℕ, ◌+◌, ◌<◌, ◌≤◌, ◌⊎◌, Bool, List, length, Option, Some, None, Result, OnOk, IfErr}
+use Rattle.std.specs.Prelude.{◌≡◌, ℕ, ◌+◌, ◌<◌, ◌≤◌, ◌⊎◌, Bool, List, length, Option, Some, None, Result, OnOk, IfErr, ◌*◌}
 use Rattle.paraid_base.specs.declared.fault.Two.{Two}
 use Rattle.paraid_base.specs.Log.{batch_room, worn_at}
 use Rattle.paraid_base.specs.Told.{HasRisen}

@@ -2,7 +2,7 @@
 //!
 //! Only reads of the log disks are made, so that a mount that is refused here leaves every image as
 //! it was. The causes are tested in the order of `IsRefused`.
-ghost use Rattle.std.specs.Prelude.{◌≡◌, ℕ, ◌≤◌, Some, Err, IfErr, IfOk, OnOk, MatchOption};
+ghost use Rattle.std.specs.Prelude.{◌≡◌, ℕ, ◌≤◌, Some, Err, IfErr, IfOk, OnOk, MatchOption, ◌+◌, ◌*◌};
 ghost use Rattle.paraid_base.specs.Log.{batch_room, worn_at};
 ghost use Rattle.paraid_rack.specs.Told.{Ran};
 ghost use Rattle.paraid_rack.specs.Trail.{Trail, now};

@@ -1,5 +1,5 @@
 //! What one log disk says: its gate, its meta, and the batch that is on its way.
-ghost use Rattle.std.specs.Prelude.{◌≡◌, ◌≢◌, ◌<◌, ◌≤◌, true, false, [], length, Some, OnOk, IfOk, AllPairs, get_or, is_ok};
+ghost use Rattle.std.specs.Prelude.{◌≡◌, ◌≢◌, ◌<◌, ◌≤◌, true, false, [], length, Some, OnOk, IfOk, AllPairs, get_or, is_ok, ◌+◌};
 ghost use Rattle.paraid_base.specs.Log.{batch_room, body_place};
 ghost use Rattle.paraid_base.specs.Xor.{zero_block};
 ghost use Rattle.paraid_rack.specs.declared.call.Power.TheVariants.{Spinning};

@@ -1,10 +1,11 @@
 //! What both log disks say.
-ghost use Rattle.std.specs.Prelude.{◌≡◌, ◌≢◌, ◌<◌, ◌≤◌, [], Some, OnOk, IfErr, IfOk, None, Ok, is_ok};
+ghost use Rattle.std.specs.Prelude.{◌≡◌, ◌≢◌, ◌<◌, ◌≤◌, [], Some, OnOk, IfErr, IfOk, None, Ok, is_ok, ◌+◌};
 ghost use Rattle.paraid_rack.specs.declared.call.Power.TheVariants.{Absent, Parked, Spinning};
 ghost use Rattle.paraid_rack.specs.Trail.{Trail, now};
 ghost use Rattle.paraid_recover.specs.HeardSides.{AreBothLost, HasReadLog, IsHeardAt, IsHeardBy, IsInForm, IsOneLost, IsReadLosing, IsReadOnly, gone_pair as gone_pair_of};
 ghost use Rattle.paraid_recover.specs.Steps.{HasHeard, HasReadLogs};
 ghost use Rattle.paraid_txn.specs.Losses.{AreTwoDownBeside};
+ghost use Rattle.paraid_base.specs.Log.{batch_room};
 
 use crate::hearing::{Heard, hear};
 use paraid_base::{DiskNo, Failed, Two};

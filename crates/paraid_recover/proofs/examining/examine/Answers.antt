@@ -1,4 +1,4 @@
-use Rattle.std.specs.Prelude.{ℕ, Err, IfErr}
+use Rattle.std.specs.Prelude.{ℕ, Err, IfErr, ◌+◌, ◌*◌}
 use Rattle.std.proofs.Common.{arith, ap, refl, subst, sym, ◌∙◌}
 use Rattle.std.proofs.lemmas.Bool.{true≢false}
 use Rattle.paraid_rack.specs.Disks.{is_parked}

@@ -1,4 +1,4 @@
-use Rattle.std.specs.Prelude.{false, true, ◌≡◌, Some, IfOk, is_ok}
+use Rattle.std.specs.Prelude.{false, true, ◌≡◌, Some, IfOk, is_ok, ◌+◌}
 use Rattle.std.proofs.Common.{arith, refl, sym, subst, ◌∙◌, ap}
 use Rattle.paraid_rack.specs.Trail.{Trail, now}
 use Rattle.paraid_rack.specs.Slots.{Slot}

@@ -1,4 +1,4 @@
-use Rattle.std.specs.Prelude.{true, false, ◌≡◌, ◌≤◌, ℕ, Option, Some, None, Ok, is_ok}
+use Rattle.std.specs.Prelude.{true, false, ◌≡◌, ◌≤◌, ℕ, Option, Some, None, Ok, is_ok, ◌+◌, ◌*◌}
 use Rattle.paraid_txn.specs.Uses.{UsesLog}
 use Rattle.std.proofs.Common.{refl, sym, ◌∙◌, ap, subst, arith, inl, inr}
 use Rattle.paraid_rack.specs.declared.call.Power.TheVariants.{Absent, Spinning}

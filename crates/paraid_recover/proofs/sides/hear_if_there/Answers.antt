@@ -1,4 +1,4 @@
-use Rattle.std.specs.Prelude.{true, ◌≡◌, None}
+use Rattle.std.specs.Prelude.{true, ◌≡◌, None, ◌+◌}
 use Rattle.std.proofs.Common.{refl, sym, ap, ◌∙◌}
 use Rattle.paraid_rack.specs.declared.call.Power.TheVariants.{Absent, Spinning}
 use Rattle.paraid_rack.specs.Disks.{is_present}
