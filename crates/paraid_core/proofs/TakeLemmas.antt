@@ -152,19 +152,19 @@ names_kept (w ∷ b) t x d p is = elim (cases_Bool (w.0.disk == t.disk && w.0.pl
 
 -- there is room for one target more, or it stands there already
 pub added : (m : Meta) (old new : Batch) (t : Target) (b : Block) (r : Result (Unit {0}) Full) → OnOk r (new ≡ with_target old t b)
-    → IfErr r (λ (full : Full). (length old ≡ batch_room) × (names_place old t.disk t.place ≡ false) × (new ≡ old))
+    → IfErr r (λ (full : Full). (full.count ≡ batch_room) × (length old ≡ batch_room) × (names_place old t.disk t.place ≡ false) × (new ≡ old))
     → (length old < batch_room) ⊎ (names_place old t.disk t.place ≡ true) → AreApart old → IsPlaced m t → IsTakenIn m old ((t, b) ∷ []) new
 added m old new t b (Ok it) is full room apart placed = subst (IsTakenIn m old ((t, b) ∷ [])) (sym is) (one_taken m old t b apart placed)
 added m old new t b (Err e) is full room apart placed = elim room [
-  | inl low ↦ let long = full.0 in absurd (omega arith)
-  | inr named ↦ absurd (false≢true (sym full.1 ∙ named))
+  | inl low ↦ let long = full.1 in absurd (omega arith)
+  | inr named ↦ absurd (false≢true (sym full.2 ∙ named))
 ]
 
 pub added_names : (old new : Batch) (t : Target) (b : Block) (r : Result (Unit {0}) Full) → OnOk r (new ≡ with_target old t b)
-    → IfErr r (λ (full : Full). (length old ≡ batch_room) × (names_place old t.disk t.place ≡ false) × (new ≡ old))
+    → IfErr r (λ (full : Full). (full.count ≡ batch_room) × (length old ≡ batch_room) × (names_place old t.disk t.place ≡ false) × (new ≡ old))
     → (d p : ℕ) → names_place old d p ≡ true → names_place new d p ≡ true
 added_names old new t b (Ok it) is full d p named = subst (λ (z : Batch). names_place z d p ≡ true) (sym is) (names_kept old t b d p named)
-added_names old new t b (Err e) is full d p named = subst (λ (z : Batch). names_place z d p ≡ true) (sym full.2) named
+added_names old new t b (Err e) is full d p named = subst (λ (z : Batch). names_place z d p ≡ true) (sym full.3) named
 
 -- there is room for the next block of a draft, or it stands there already
 pub next_room : (m : Meta) (a draft b : Batch) (at : ℕ) (t : Target) → at < length draft → t ≡ get_or (targets draft) at no_target → HasRoomFor a draft

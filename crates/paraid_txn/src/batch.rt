@@ -17,7 +17,9 @@ use std::marker::Model;
 
 /// A batch holds its 96 targets, and this one is new.
 #[derive(Clone, Copy)]
-pub struct Full;
+pub struct Full {
+    pub count: u8,
+}
 
 #[derive(Drop)]
 struct Staged {
@@ -75,8 +77,9 @@ impl Batch {
     pub fn add(&mut self, disk: DiskNo, place: Place, block: &Block) -> Result<(), Full>
         ensures ok { OnOk result (self.new
             ≡ with_target self.old (record { disk = disk; place = place }) block.now) }
-        ensures full { IfErr result (λ full. (length self.old ≡ batch_room)
-            × (names_place self.old disk place ≡ false) × (self.new ≡ self.old)) }
+        ensures full { IfErr result (λ full. (full.count ≡ batch_room)
+            × (length self.old ≡ batch_room) × (names_place self.old disk place ≡ false)
+            × (self.new ≡ self.old)) }
         ensures room { OnOk result
             ((names_place self.old disk place ≡ true) ⊎ (length self.old < batch_room)) }
     {
@@ -86,7 +89,9 @@ impl Batch {
             return Ok(());
         }
         if self.staged.len() == BATCH_ROOM {
-            return Err(Full);
+            return Err(Full {
+                count: BATCH_ROOM as u8,
+            });
         }
         self.staged.push_reserved(Staged {
             target,

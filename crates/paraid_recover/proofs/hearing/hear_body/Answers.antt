@@ -62,7 +62,7 @@ returns-in_err-read_place g c =
 pub returns-in-Err : goal.returns-in-Err
 returns-in-Err g c =
     let size = read_so_far c.loop-at.batch (targets_of c.args.places.now) c.loop-at.at (below_all c.args.places.now.count c.loop-at.at c.args.places.now.list c.target_at-target.ensures.list c.loop-at-test.true) c.loop-at.invariant.named in
-    let full : length c.loop-at.batch ≡ batch_room = c.in-Err.ensures.full.0 in
+    let full : length c.loop-at.batch ≡ batch_room = c.in-Err.ensures.full.1 in
     let few = c.requires.few in
     let at = c.loop-at-test.true in
     absurd (omega arith)
