@@ -8,6 +8,7 @@ use Rattle.paraid_shift.specs.Units.{CoreCountsMoved, HasDirtyBefore, are_copied
 use Rattle.paraid_shift.proofs.CopiedLemmas.{keeps_none, keeps_then}
 use Rattle.paraid_shift.proofs.MovingLemmas.{core_moves_same, core_moves_so, core_moves_then}
 use Rattle.paraid_shift.proofs.cells.mark_cells.Goals as goal
+use Rattle.paraid_base.specs.Log.{batch_room}
 
 below : (marked count : ℕ) → marked < count → marked ≤ count
 below marked count low = omega arith
@@ -61,7 +62,7 @@ returns-then-not-mark_one g c =
       moves = subst (λ (z : _). CoreCountsMoved g.R.Rack.slot_count a z c.loop-marked.marked) (sym same) was.moves;
       idle = λ none. same ∙ was.idle none;
       some = λ room few has. elim (cases_eq c.loop-marked.marked 0) [
-        | inl none ↦ absurd (subst (λ (z : _). length z.batch ≤ 94 → HasDirtyBefore z.meta z.dirty c.args.group.now.row c.args.group.now.disk → ⊥) (was.idle none) (one.some c.if-not-mark_one.true) room has)
+        | inl none ↦ absurd (subst (λ (z : _). length z.batch + 2 ≤ batch_room → HasDirtyBefore z.meta z.dirty c.args.group.now.row c.args.group.now.disk → ⊥) (was.idle none) (one.some c.if-not-mark_one.true) room has)
         | inr some ↦ omega (arith, some)
       ];
       copied = subst (λ (z : _). KeepsCopied g.R.Rack.slot_count g.R.Rack.told a z (are_copied_before a.meta c.args.group.now.row c.args.group.now.disk)) (sym same) was.copied;

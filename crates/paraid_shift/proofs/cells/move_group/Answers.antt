@@ -17,6 +17,7 @@ use Rattle.paraid_shift.proofs.OutcomeLemmas.{calls_marked, le_then, leaves_mark
 use Rattle.paraid_shift.proofs.ServingLemmas.{array_left}
 use Rattle.paraid_shift.proofs.StepsLemmas.{copies_are_steps}
 use Rattle.paraid_shift.proofs.cells.move_group.Goals as goal
+use Rattle.paraid_base.specs.Log.{batch_room}
 
 pub copy_group-requires : goal.copy_group-requires
 copy_group-requires g c = record { can = c.requires.can }
@@ -89,7 +90,7 @@ returns g c =
             | inl few ↦ inl few
             | inr clean ↦ inr (subst (λ (z : _). AreCellsDone z.meta z.dirty) (sym (marks.idle none)) clean)
           ]
-          | inr some ↦ absurd (let marked = marks.some (subst (λ (l : _). length l ≤ 94) (sym (left.batch ∙ c.requires.can.nothing)) (omega arith)) (omega arith) (group.before (omega arith)) in omega (arith, marked, none))
+          | inr some ↦ absurd (let marked = marks.some (subst (λ (l : _). length l + 2 ≤ batch_room) (sym (left.batch ∙ c.requires.can.nothing)) (omega arith)) (omega arith) (group.before (omega arith)) in omega (arith, marked, none))
         ];
         steps = copies_are_steps g.R.Rack.slot_count g.R.Rack.slot g.R.Rack.told a new (g.met.R.Rack.agrees (store_rack a.store)) (g.met.R.Rack.agrees (store_rack new.store))
             moved.slots moved.setup marks.serving.ready (lost_marked a b new marks.store marks.meta g.R.Rack.slot done.copies.marks) c.requires.can.nothing (calls_marked a b new marks.store marks.meta g.R.Rack.told call.copies.calls)
