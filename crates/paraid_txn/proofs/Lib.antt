@@ -28,6 +28,7 @@ pub mod ResumeStagesLemmas
 pub mod ResumeImagesLemmas
 pub mod ClosedLemmas
 pub mod ResumePromiseLemmas
+pub mod QuietLemmas
 pub mod MeansLemmas
 pub mod HeldResumeLemmas
 pub mod HeldCommitLemmas

@@ -2,6 +2,7 @@
 -- began, or, once the log disk that stood is lost, what they then stood for without it.
 use Rattle.std.specs.Prelude.{◌≡◌, ◌≢◌, ℕ, ◌<◌, ◌≤◌, ◌⊎◌, Bool, false, [], Option, Some, All}
 use Rattle.paraid_rack.specs.Atoms.{IsLeftByStop, IsSeen, IsSure}
+use Rattle.paraid_rack.specs.Calls.{IsRead}
 use Rattle.paraid_rack.specs.Disks.{Disks, IsPresent, is_present, lose}
 use Rattle.paraid_rack.specs.Told.{Ran, Through}
 use Rattle.paraid_rack.specs.Trail.{Trail, run}
@@ -17,6 +18,7 @@ use Rattle.paraid_image.specs.Sides.{Batch, LogState, Says, is_open, targets}
 use Rattle.paraid_image.specs.Sound.{LogOk}
 use Rattle.paraid_txn.specs.CommitStages.{AllSynced, IsBlock, IsLateImage, IsLiveLog, Job, KeepsSlotsAndLogs, LeavesAside, SyncedBut, block_before, job_map_start, job_named, open_with}
 use Rattle.paraid_image.specs.Standing.{Stands, other_log}
+use Rattle.paraid_txn.specs.Uses.{EachCall}
 
 -- Log disk `x` of the disks `s` stands and says this, its log is in order, and nothing is loose.
 pub record IsResumable (s : Disks) (x : ℕ) (said : LogState) : Type 0 where
@@ -65,6 +67,12 @@ abbrev pub EndsLaid : Option Trail → Option Trail → ℕ → LogState → Typ
 EndsLaid old new x said = Ran old new (λ start calls. IsResumable start x said
     → IsOneMissing (run start calls).power said.meta said.meta
     → ImageStandsFor start (run start calls) said.meta said.batch)
+
+-- where what was said is of a closed gate, and all gates are closed as these calls begin, each of
+-- them is a read
+abbrev pub OnlyReadsIfClosed : Option Trail → Option Trail → LogState → Type 0
+OnlyReadsIfClosed old new said = Ran old new (λ start calls. said.opened ≡ false
+    → AreLogGatesClosed start said.meta → EachCall IsRead start calls)
 
 -- What can be resumed on a rack of so many slots: the log disk is not named out, the meta and the
 -- targets are in range, each live log disk and each disk with targets can be written, unless it is

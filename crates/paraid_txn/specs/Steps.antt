@@ -8,7 +8,7 @@ use Rattle.paraid_image.specs.Out.{named_out, or_else}
 use Rattle.paraid_image.specs.Sides.{LogState}
 use Rattle.paraid_txn.specs.declared.store.Store.{Store}
 use Rattle.paraid_txn.specs.Losses.{AreFailedOrWell, AreGoneSince, AreTwoDownBeside, IsAlone, IsLostNow, IsOneOut, IsOnlyOut, IsOutOfCommit, IsWell, OnlyLosesSlots, StaySynced, TellsSecondLoss}
-use Rattle.paraid_txn.specs.Resume.{EndsResumed, EndsLaid, StandsWhileResumed}
+use Rattle.paraid_txn.specs.Resume.{EndsResumed, EndsLaid, OnlyReadsIfClosed, StandsWhileResumed}
 use Rattle.paraid_txn.specs.Stores.{disks_of, epoch_of, named_of, store_rack}
 use Rattle.paraid_txn.specs.Uses.{EachCall, Uses}
 
@@ -52,7 +52,8 @@ pub record SurvivesLoss {R : Type 0}
 -- The commit that log disk `x` said was resumed on this rack, to its end or until a second disk was
 -- lost. The rack keeps its slots; one changes only as it becomes absent; its disk has failed, or is
 -- well. Each call is one of that commit. At each moment the disks stand for what they stood for as
--- it began, or, once log disk `x` is lost, for what they then stood for without it.
+-- it began, or, once log disk `x` is lost, for what they then stood for without it. Where all gates
+-- were closed, it only reads.
 pub record ResumesOn
     {R : Type 0} (g : Ghosts R) (x : ℕ) (said : LogState) (old new : R) : Type 0 where
   pub slots : g.slot_count new ≡ g.slot_count old
@@ -60,6 +61,7 @@ pub record ResumesOn
   pub each : AreFailedOrWell (g.slot old) (g.slot new)
   pub calls : Ran (g.told old) (g.told new) (EachCall (Uses said.meta said.batch))
   pub any_moment : StandsWhileResumed (g.told old) (g.told new) x said
+  pub quiet : OnlyReadsIfClosed (g.told old) (g.told new) said
 
 -- A resumption that ends gives a store that stands by the meta that was said. Nothing became
 -- unsynced, and one disk at most is out where it was so before. The commit is ended, and its batch

@@ -18,10 +18,11 @@ ghost use Rattle.paraid_txn.specs.CrashSpecification.{CrashSpecification};
 ghost use Rattle.paraid_txn.specs.Uses.{Uses, UsesLog};
 ghost use Rattle.paraid_image.specs.Out.{named_out};
 ghost use Rattle.paraid_txn.specs.Ready.{AreTargetsReady, IsLogReady};
-ghost use Rattle.paraid_txn.specs.Resume.{CanResume, StandsWhileResumed, LeadsResume, HoldsThroughResume, AreDisksSame, EndsResumed, EndsLaid, ShutSynced, ShutEnd, HoldsThroughShut};
-ghost use Rattle.paraid_image.specs.Sides.{log_state, is_open, targets};
+ghost use Rattle.paraid_txn.specs.Resume.{CanResume, StandsWhileResumed, LeadsResume, HoldsThroughResume, AreDisksSame, EndsResumed, EndsLaid, OnlyReadsIfClosed, ShutSynced, ShutEnd, HoldsThroughShut};
+ghost use Rattle.paraid_image.specs.Sides.{closed_over, log_state, is_open, targets};
 ghost use Rattle.paraid_txn.specs.CommitStages.{CloseStage, IsSpelled, Job, LayIn, job_gone, job_named};
 ghost use Rattle.paraid_image.specs.Standing.{other_log};
+ghost use Rattle.paraid_record.specs.declared.meta.Meta.{Meta as MetaType};
 
 use crate::batch::Batch;
 use crate::calls::{put_synced, take};
@@ -143,6 +144,8 @@ fn resume_closed<R: Rack>(
     ensures crash { (j : Job) → IsSpelled j → job_named j ≡ skip
         → j.spelled ≡ meta.now → CrashSpecification (HoldsThroughShut j (other_log side))
         (AreDisksSame j) (ShutEnd j (other_log side)) (R.told rack.old) (R.told rack.new) result }
+    ensures quiet { (m : MetaType) → named_out m.out ≡ skip
+        → OnlyReadsIfClosed (R.told rack.old) (R.told rack.new) (closed_over m) }
 {
     let other = 1 - side;
     let mut found = Block::zero();
@@ -175,6 +178,8 @@ fn end_commit<R: Rack>(
         (log_state gate_open meta.now batch.now)) }
     ensures laid { OnOk result (EndsLaid (R.told rack.old) (R.told rack.new) side
         (log_state gate_open meta.now batch.now)) }
+    ensures quiet { OnlyReadsIfClosed (R.told rack.old) (R.told rack.new)
+        (log_state gate_open meta.now batch.now) }
 {
     let list = spell_targets(batch);
     let spelled = spell_meta(meta);

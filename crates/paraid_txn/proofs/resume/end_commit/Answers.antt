@@ -7,6 +7,7 @@ use Rattle.paraid_txn.specs.Resume.{StandsWhileResumed, EndsResumed, EndsLaid}
 use Rattle.paraid_image.specs.Sides.{log_state}
 use Rattle.paraid_txn.specs.CommitStages.{IsSpelled, job}
 use Rattle.paraid_txn.proofs.ResumePromiseLemmas.{closed_lays, closed_resumes, closed_settles, open_lays, open_resumes, open_settles}
+use Rattle.paraid_txn.proofs.QuietLemmas.{quiet_closed, quiet_opened}
 use Rattle.paraid_txn.proofs.StoreLemmas.{IsStartReady, start_ready}
 use Rattle.paraid_txn.proofs.CommitPartLemmas.{CommitPart_logs}
 use Rattle.paraid_txn.proofs.CrashSpecificationLemmas.{ok_at, on_ok_as}
@@ -46,6 +47,7 @@ returns-then-gate_open g c = record {
       subst (λ (o : Bool). EndsLaid (g.R.Rack.told c.args.rack.now) (g.R.Rack.told c.resume_open.new.rack) c.args.side (log_state o c.args.meta.now c.args.batch.now)) (sym c.if-gate_open.true)
       (open_lays _ _ _ _ _ (good g at.After-spell_meta-spelled) c.requires.log_disk c.requires.in_array _ _ (ready g at.After-spell_meta-spelled)
       (λ start leads. ok_at _ ended (c.resume_open.ensures.crash _ (good g at.After-spell_meta-spelled start) refl refl refl refl refl leads).done)));
+  quiet = quiet_opened c.args.meta.now c.args.batch.now c.args.gate_open _ _ _ c.if-gate_open.true c.resume_open.ensures.leaves.part.calls;
 }
 
 pub returns : goal.returns
@@ -69,4 +71,5 @@ returns g c = record {
       subst (λ (o : Bool). EndsLaid (g.R.Rack.told c.args.rack.now) (g.R.Rack.told c.resume_closed.new.rack) c.args.side (log_state o c.args.meta.now c.args.batch.now)) (sym c.if-gate_open.false)
       (closed_lays _ _ _ _ _ (good g at.After-spell_meta-spelled) c.requires.log_disk c.requires.in_array _ _ (ready g at.After-spell_meta-spelled) (c.requires.empty c.if-gate_open.false)
       (λ start. ok_at _ ended (c.resume_closed.ensures.crash _ (good g at.After-spell_meta-spelled start) (sym c.named.ensures) refl).done)));
+  quiet = quiet_closed c.args.gate_open c.args.meta.now c.args.batch.now _ _ (c.resume_closed.ensures.quiet c.args.meta.now (sym c.named.ensures));
 }

@@ -15,6 +15,7 @@ use Rattle.paraid_txn.proofs.ReadyLemmas.{log_stays_ready, log_can}
 use Rattle.paraid_txn.proofs.ResumeStagesLemmas.{absent_by, filled, good_filled, read_start, same_read, shutting_same, take_ran, upto_told}
 use Rattle.paraid_txn.proofs.CommitPartLemmas.{CommitPart_by, logs_read}
 use Rattle.paraid_txn.proofs.CrashSpecificationLemmas.{crash_after, crash_failed, crash_never, crash_upto}
+use Rattle.paraid_txn.proofs.QuietLemmas.{quiet_open, quiet_read}
 use Rattle.paraid_txn.proofs.resume.resume_closed.Given.{Over}
 use Rattle.paraid_txn.proofs.resume.resume_closed.Goals as goal
 use Rattle.paraid_txn.proofs.resume.resume_closed.Goals.{After-opens, After-take}
@@ -57,6 +58,7 @@ returns-in_err-read g c = record {
   crash = λ j good is same.
       let at = goal.at.returns-in_err-read g c in
       crash_failed _ _ c.from_residual.ensures.1 (ends (shutting_same j (other_log c.args.side)) (taken g at.After-take j));
+  quiet = λ m is. quiet_read c.take.ensures.part.calls m;
 }
 
 pub returns-then-not-read : goal.returns-then-not-read
@@ -75,6 +77,7 @@ returns-then-not-read g c = record {
           shut = λ l here. absurd (absent_by y (g.met.R.Rack.agrees c.take.new.rack t to) (c.take.ensures.passed off (λ e. l.1 (is ∙ e))) here);
         })) (taken g at.After-take j);
       };
+  quiet = λ m is. quiet_read c.take.ensures.part.calls m;
 }
 
 pub returns-then-not-opens : goal.returns-then-not-opens
@@ -94,6 +97,7 @@ returns-then-not-opens g c = record {
           shut = λ l here. ap is_open (((b.same y 0).holds here).1 ∙ sym (found g at.After-take j on s from a)) ∙ shut;
         })) (taken g at.After-take j);
       };
+  quiet = λ m is. quiet_read c.take.ensures.part.calls m;
 }
 
 pub returns : goal.returns
@@ -112,6 +116,11 @@ returns g c = record {
         | inr shut_then ↦ crash_after (not_shut g at.After-take j on opened shut_then)
             (crash_never (c.shut.ensures.crash (filled j c.take.new.into) (good_filled j c.take.new.into good) is same not opened))
       ];
+  quiet =
+      let at = goal.at.returns g c in
+      let on = on g at.After-opens in
+      quiet_open (SyncedPart_then (heard g at.After-take true on) c.shut.ensures.leaves).part.calls (let low = c.requires.log_disk in omega arith) (live g at.After-take on) c.requires.log
+      (c.take.ensures.present on) (g.met.R.Rack.agrees c.args.rack.now) (c.take.ensures.bytes on) (sym c.opens.ensures ∙ c.if-not-opens.false);
 }
 
 pub shut-requires : goal.shut-requires

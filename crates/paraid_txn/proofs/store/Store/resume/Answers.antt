@@ -33,6 +33,7 @@ returns-in-Err g c =
           each = part.lasts.each;
           calls = part.calls;
           any_moment = c.end_commit-ended.ensures.moments;
+          quiet = c.end_commit-ended.ensures.quiet;
         });
         two = (two_beside _ _ _ _ _ _ _ _ (down_is g at.After-end_commit-ended)
             (rw (← (c.adopt-store.ensures.rack), c.close.ensures) c.in-Err.ensures.leaves.part.two));
@@ -55,6 +56,7 @@ returns g c =
           each = part.lasts.each;
           calls = part.calls;
           any_moment = c.end_commit-ended.ensures.moments;
+          quiet = c.end_commit-ended.ensures.quiet;
         });
         disks = c.adopt-store.ensures.disks;
         epoch = c.adopt-store.ensures.epoch;
