@@ -37,7 +37,7 @@ failed_before {s} {t} {u} {d} same f = record {
 
 -- Calls
 
-calls_append : (u : Call → Type 0) (s : Disks) (cs ds : List Call) → EachCall u s cs → EachCall u (run s cs) ds → EachCall u s (cs ++ ds)
+pub calls_append : (u : Call → Type 0) (s : Disks) (cs ds : List Call) → EachCall u s cs → EachCall u (run s cs) ds → EachCall u s (cs ++ ds)
 calls_append u s [] ds first second = second
 calls_append u s (c ∷ cs) ds first second = (first.0, first.1, calls_append u (step c s) cs ds first.2 second)
 

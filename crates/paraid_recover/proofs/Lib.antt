@@ -39,6 +39,7 @@ pub mod OneMarkedLemmas
 pub mod TurnsLemmas
 pub mod BearingLemmas
 pub mod OpenLemmas
+pub mod UnwrittenLemmas
 pub mod BearerLemmas
 pub mod NotedLemmas
 pub mod PowersLemmas

@@ -14,6 +14,7 @@ pub mod HeldMoments
 pub mod Quiet
 pub mod Map
 pub mod RecoveryMark
+pub mod Still
 pub mod Powers
 pub mod Mounted
 pub mod EndOfMount

@@ -23,6 +23,7 @@ use Rattle.paraid_recover.specs.Map.{ChangesByBatch, HasMapAtEnd}
 use Rattle.paraid_recover.specs.Mounted.{IsStandingWithLoss, with_loss}
 use Rattle.paraid_recover.specs.MountCalls.{OnlyMountCalls}
 use Rattle.paraid_recover.specs.RecoveryMark.{with_mark}
+use Rattle.paraid_recover.specs.Still.{IsLeftWhole, StaysUnwritten}
 use Rattle.paraid_recover.specs.Witness.{IsWitnessRefusal}
 use Rattle.paraid_rack.specs.declared.call.Power.TheVariants.{Absent, Spinning}
 use Rattle.paraid_recover.specs.StandingMetas.{StandsThroughMount}
@@ -91,6 +92,9 @@ pub record HasMounted (count : ℕ) (old new : ℕ → Slot) (named : Option ℕ
   -- and where a history was held, against the one that the meta that stands at the end names out
   pub marked : (slots : ℕ)
       → EndsBorne (IsNamedLog named) slots side said settled.recovered.read told_new
+  -- where the array was left whole, as the reads of the log disks ended, and no call fails after
+  -- them, the mount writes nothing
+  pub unwritten : StaysUnwritten (IsLeftWhole said) settled.recovered.read told_new
 
 -- Only reads of the log disks are told.
 pub record HasOnlyRead (old new : Option Trail) : Type 0 where

@@ -26,6 +26,7 @@ use Rattle.paraid_recover.specs.Map.{ChangesByBatch, IsNarrow, KeepsFar}
 use Rattle.paraid_recover.specs.MountCalls.{OnlyMountCalls}
 use Rattle.paraid_recover.specs.Mounted.{IsFit}
 use Rattle.paraid_recover.specs.StandingMetas.{StandsInMoments, StandsThroughMount}
+use Rattle.paraid_recover.specs.Still.{IsLeftWhole, IsUpToDate, StaysUnwritten}
 
 -- The store stands by this meta, so a disk can be marked by a commit: an epoch is left, each disk
 -- has a slot, and the log can be written.
@@ -68,7 +69,8 @@ pub record KeepsPowered {R A : Type 0}
   pub far : KeepsFar (g.told (store_rack old)) (g.told (store_rack new))
 
 -- Each call is one that a mount may make. What was recovered is held at each moment, and its meta
--- stands, or one that a mount makes of it. A witness that is borne is not borne again.
+-- stands, or one that a mount makes of it. A witness that is borne is not borne again. Where nothing
+-- is to be brought up to date and no call fails, nothing is written.
 pub record RecoversOn {R : Type 0} {g : Ghosts R} (m : Meta) (old new : Store R g) : Type 0 where
   pub allowed : OnlyMountCalls m (g.told (store_rack old)) (g.told (store_rack new))
   pub holds : (slots x : ℕ) (said : LogState) (first : Option Trail)
@@ -79,6 +81,7 @@ pub record RecoversOn {R : Type 0} {g : Ghosts R} (m : Meta) (old new : Store R 
       → StandsInMoments slots x said first (g.told (store_rack old))
       → StandsInMoments slots x said first (g.told (store_rack new))
   pub once : BearsOnce m (g.told (store_rack old)) (g.told (store_rack new))
+  pub unwritten : StaysUnwritten (IsUpToDate m) (g.told (store_rack old)) (g.told (store_rack new))
 
 -- Where a disk was marked by a commit, the store names it alone, in the next epoch, and nothing
 -- became unsynced.
@@ -100,7 +103,8 @@ pub record HasStood {R : Type 0} {g : Ghosts R} (store : Store R g) (m : Meta) :
 
 -- The same from the rack whose log disk `x` stood and said this: it has as many slots as before,
 -- and no count of faults falls. Past the log each block is as it was, or is of the batch. A witness
--- that is borne is not borne again.
+-- that is borne is not borne again. Where the array was left whole and no call fails, nothing is
+-- written.
 pub record MountsOn
     {R : Type 0} (g : Ghosts R) (x : ℕ) (said : LogState) (old new : R) : Type 0 where
   pub slots : g.slot_count new ≡ g.slot_count old
@@ -110,6 +114,7 @@ pub record MountsOn
   pub holds : (slots : ℕ) → RecoversHeld slots x said (g.told old) (g.told new)
   pub far : ChangesByBatch said.batch (g.told old) (g.told new)
   pub once : BearsOnce said.meta (g.told old) (g.told new)
+  pub unwritten : StaysUnwritten (IsLeftWhole said) (g.told old) (g.told new)
 
 -- This was heard of the log disk, or nothing where it is absent; it is in form.
 pub record HasHeard {R : Type 0}

@@ -30,6 +30,8 @@ use Rattle.paraid_recover.proofs.MapServedLemmas.{loss_setup, map_served, map_so
 use Rattle.paraid_recover.proofs.MarkMomentLemmas.{mark_later}
 use Rattle.paraid_recover.proofs.MountCallsLemmas.{mount_then, resume_calls}
 use Rattle.paraid_recover.specs.StandingMetas.{StandsThroughMount}
+use Rattle.paraid_recover.specs.Still.{IsLeftWhole, StaysUnwritten}
+use Rattle.paraid_recover.proofs.UnwrittenLemmas.{unwritten_raised, unwritten_resumed}
 use Rattle.paraid_recover.proofs.SecondLossLemmas.{out_more, still_tells, tells_end, tells_same}
 use Rattle.paraid_recover.proofs.RecoverLemmas.{grows, resumes_held}
 use Rattle.paraid_recover.proofs.OpenLemmas.{once_resumed, open_resumed}
@@ -138,6 +140,13 @@ all_once g c =
     once_resumed c.args.standing.now.meta c.args.batch (g.R.Rack.told c.args.rack) (g.R.Rack.told (store_rack c.in-Ok.store)) (g.R.Rack.told (store_rack c.raise.new.store))
     c.requires.can.each c.in-Ok.ensures.resumes.on.calls c.raise.ensures.recovers.once
 
+-- where the array was left whole, nothing is written
+all_unwritten : (g : Over) (c : After-raise g)
+    → StaysUnwritten (IsLeftWhole (log_state c.args.standing.now.gate_open c.args.standing.now.meta c.args.batch)) (g.R.Rack.told c.args.rack) (g.R.Rack.told (store_rack c.raise.new.store))
+all_unwritten g c =
+    unwritten_raised (log_state c.args.standing.now.gate_open c.args.standing.now.meta c.args.batch) (g.R.Rack.told c.args.rack) (g.R.Rack.told (store_rack c.in-Ok.store)) (g.R.Rack.told (store_rack c.raise.new.store))
+    c.in-Ok.ensures.resumes.on.quiet c.raise.ensures.recovers.unwritten
+
 pub returns-in-Err : goal.returns-in-Err
 returns-in-Err g c = record {
   mounts = tt;
@@ -162,6 +171,8 @@ returns-in-Err g c = record {
     once = λ two.
         let m = c.args.standing.now.meta in
         open_resumed m c.args.batch c.requires.can.each (gone_out m.out) (g.R.Rack.told c.args.rack) (g.R.Rack.told c.in-Err.refused.rack) c.in-Err.ensures.refused.on.calls;
+    unwritten =
+        unwritten_resumed (said g (goal.at.returns-in-Err g c).After-resume) (g.R.Rack.told c.args.rack) (g.R.Rack.told c.in-Err.refused.rack) c.in-Err.ensures.refused.on.quiet;
   };
   servable = tt;
   nothing = tt;
@@ -226,6 +237,9 @@ returns-in-Err-raise g c = record {
         subst (λ (r : _). ChangesByBatch c.args.batch (g.R.Rack.told c.args.rack) (g.R.Rack.told r)) (sym c.close.ensures) (all_far g (goal.at.returns-in-Err-raise g c).After-raise);
     once =
         subst (λ (r : _). BearsOnce c.args.standing.now.meta (g.R.Rack.told c.args.rack) (g.R.Rack.told r)) (sym c.close.ensures) (all_once g (goal.at.returns-in-Err-raise g c).After-raise);
+    unwritten =
+        let s = log_state c.args.standing.now.gate_open c.args.standing.now.meta c.args.batch in
+        subst (λ (r : _). StaysUnwritten (IsLeftWhole s) (g.R.Rack.told c.args.rack) (g.R.Rack.told r)) (sym c.close.ensures) (all_unwritten g (goal.at.returns-in-Err-raise g c).After-raise);
   };
   servable = tt;
   nothing = tt;
@@ -262,6 +276,7 @@ returns-in-Ok-raise g c = record {
         c.raise.ensures.recovers.holds slots c.args.standing.now.side (log_state c.args.standing.now.gate_open c.args.standing.now.meta c.args.batch) (g.R.Rack.told c.args.rack) refl (resumed g at slots);
     far = all_far g (goal.at.returns-in-Ok-raise g c).After-raise;
     once = all_once g (goal.at.returns-in-Ok-raise g c).After-raise;
+    unwritten = all_unwritten g (goal.at.returns-in-Ok-raise g c).After-raise;
   };
   refused = tt;
   servable = c.in-Ok-raise.ensures.servable;

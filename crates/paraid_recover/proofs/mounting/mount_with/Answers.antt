@@ -157,6 +157,7 @@ returns-in-Ok-bring_up g c = record {
         unwitnessed = subst (λ (slot : ℕ → Slot). (slot (other_log s.side)).power ≡ Absent → (slot 2).power ≡ Spinning → (t : Trail) → g.R.Rack.told c.heed.new.rack ≡ Some t → is_open (stored_block (now t) 2 s.side) ≡ false) (slots_later c.in_default-heed.ensures.ok.reads.same) c.in_default-heed.ensures.ok.shut;
         borne = c.in-Ok-bring_up.ensures.borne;
         marked = c.in-Ok-bring_up.ensures.marked;
+        unwritten = c.in-Ok-bring_up.ensures.mounts.unwritten;
         later = λ d. (let a = c.examine.ensures.powers.no_fall d in let same = ap (λ (k : Slot). k.faults) (c.in_default-heed.ensures.ok.reads.same refl d) in let b = c.in-Ok-bring_up.ensures.mounts.later d in omega arith);
         map = map_sooner (g.R.Rack.slot c.args.rack) (g.R.Rack.slot c.heed.new.rack) (g.R.Rack.slot (store_rack c.in-Ok-bring_up.mounted.store)) c.in-Ok-bring_up.mounted.meta (is_dirty c.in-Ok-bring_up.mounted.dirty)
             (g.R.Rack.told (store_rack c.in-Ok-bring_up.mounted.store)) (subst (OnlyLosesSlots (g.R.Rack.slot c.args.rack)) (slots_later c.in_default-heed.ensures.ok.reads.same) c.examine.ensures.powers) c.in-Ok-bring_up.ensures.map;

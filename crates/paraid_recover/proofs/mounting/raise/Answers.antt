@@ -38,6 +38,8 @@ use Rattle.paraid_recover.proofs.GoneLemmas.{gone_beside, gone_sooner, none_come
 use Rattle.paraid_recover.proofs.MountCallsLemmas.{mount_then, power_calls}
 use Rattle.paraid_recover.proofs.ServableLemmas.{disks_marked, names_stay, servable, two_marked, who_is_out}
 use Rattle.paraid_recover.specs.StandingMetas.{StandsInMoments}
+use Rattle.paraid_recover.specs.Still.{IsUpToDate, StaysUnwritten}
+use Rattle.paraid_recover.proofs.UnwrittenLemmas.{unwritten_turns}
 use Rattle.paraid_recover.proofs.SecondLossLemmas.{one_fewer, still_tells, tells_marked}
 use Rattle.paraid_recover.specs.StandingMetas.StandsForeseen.{marked}
 use Rattle.paraid_recover.proofs.RestMetasLemmas.{turns_metas}
@@ -119,6 +121,12 @@ once g c =
     once_then m (g.R.Rack.told (store_rack c.args.store.now)) told_1 told_2 c.settle.ensures.recovers.once
     (λ two. open_turns c.in-Ok.standing (gone_out m.out) told_1 told_2 c.power_disks.ensures.calls)
 
+-- where nothing is to be brought up to date, nothing is written
+unwritten : (g : Over) (c : After-power_disks g) → StaysUnwritten (IsUpToDate c.args.meta.now) (g.R.Rack.told (store_rack c.args.store.now)) (g.R.Rack.told (store_rack c.power_disks.new.store))
+unwritten g c =
+    unwritten_turns c.args.meta.now c.in-Ok.standing (g.R.Rack.told (store_rack c.args.store.now)) (g.R.Rack.told (store_rack c.settle.new.store)) (g.R.Rack.told (store_rack c.power_disks.new.store))
+    c.settle.ensures.recovers.unwritten c.power_disks.ensures.calls
+
 -- the slots once the disks are powered
 later : (g : Over) (c : After-power_disks g) (d : ℕ) → (g.R.Rack.slot (store_rack c.args.store.now) d).faults ≤ (g.R.Rack.slot (store_rack c.power_disks.new.store) d).faults
 later g c d = let first = c.settle.ensures.kept.powers.no_fall d in let second = (c.power_disks.ensures.turned d).later in omega arith
@@ -191,6 +199,7 @@ returns-in-Err g c = record {
     holds = c.settle.ensures.recovers.holds;
     metas = c.settle.ensures.recovers.metas;
     once = c.settle.ensures.recovers.once;
+    unwritten = c.settle.ensures.recovers.unwritten;
   };
   split = (g.R.Rack.told (store_rack c.settle.new.store), logs_still _ _ c.settle.ensures.still, inl refl);
   ends = tt;
@@ -266,6 +275,7 @@ returns-in-Err-power_disks g c = record {
     holds = holds g (goal.at.returns-in-Err-power_disks g c).After-power_disks;
     metas = metas g (goal.at.returns-in-Err-power_disks g c).After-power_disks;
     once = once g (goal.at.returns-in-Err-power_disks g c).After-power_disks;
+    unwritten = unwritten g (goal.at.returns-in-Err-power_disks g c).After-power_disks;
   };
   split =
       (g.R.Rack.told (store_rack c.settle.new.store), logs_still _ _ c.settle.ensures.still, inr (powers g (goal.at.returns-in-Err-power_disks g c).After-power_disks));
@@ -311,6 +321,7 @@ returns g c = record {
     holds = holds g (goal.at.returns g c).After-power_disks;
     metas = metas g (goal.at.returns g c).After-power_disks;
     once = once g (goal.at.returns g c).After-power_disks;
+    unwritten = unwritten g (goal.at.returns g c).After-power_disks;
   };
   split = (g.R.Rack.told (store_rack c.settle.new.store), logs_still _ _ c.settle.ensures.still, inr (powers g (goal.at.returns g c).After-power_disks));
   ends =

@@ -31,6 +31,8 @@ use Rattle.paraid_recover.proofs.MountCallsLemmas.{map_calls, mount_then, sync_c
 use Rattle.paraid_recover.proofs.OpenLemmas.{once_then, open_quiet}
 use Rattle.paraid_recover.proofs.RenewLemmas.{version_marked}
 use Rattle.paraid_recover.specs.StandingMetas.{StandsInMoments}
+use Rattle.paraid_recover.specs.Still.{IsUpToDate, StaysUnwritten}
+use Rattle.paraid_recover.proofs.UnwrittenLemmas.{unwritten_after, unwritten_quiet}
 use Rattle.paraid_recover.proofs.SecondLossLemmas.{out_more, still_tells, tells_out, tells_same}
 use Rattle.paraid_recover.proofs.QuietCallsLemmas.{quiet_recovers}
 use Rattle.paraid_recover.proofs.RestMetasLemmas.{quiet_metas}
@@ -218,6 +220,26 @@ all_once g c =
     once_then c.args.meta.now (g.R.Rack.told (store_rack c.args.store.now)) (g.R.Rack.told (store_rack c.sync_all.new.self)) (g.R.Rack.told (store_rack c.mark_out.new.store))
     (sync_once g (goal.at.After-mark_out g c).After-sync_all) c.mark_out.ensures.recovers.once
 
+-- where nothing is to be brought up to date, nothing is written
+sync_unwritten : (g : Over) (c : After-sync_all g) → StaysUnwritten (IsUpToDate c.args.meta.now) (g.R.Rack.told (store_rack c.args.store.now)) (g.R.Rack.told (store_rack c.sync_all.new.self))
+sync_unwritten g c =
+    let m = c.args.meta.now in
+    let told_0 = g.R.Rack.told (store_rack c.args.store.now) in
+    let told_1 = g.R.Rack.told (store_rack c.read_map.new.store) in
+    let told_2 = g.R.Rack.told (store_rack c.sync_all.new.self) in
+    unwritten_after c.args.store.now.disks m told_0 told_1 told_2 (quiet_reads c.args.store.now.disks told_0 told_1 c.in_default.ensures.read.calls)
+    (unwritten_quiet c.read_map.new.store.disks m told_1 told_2 (quiet_syncs c.read_map.new.store.disks _ told_1 told_2 c.sync_all.ensures.calls))
+
+all_unwritten : (g : Over) (c : After-mark_out g) → StaysUnwritten (IsUpToDate c.args.meta.now) (g.R.Rack.told (store_rack c.args.store.now)) (g.R.Rack.told (store_rack c.mark_out.new.store))
+all_unwritten g c =
+    let m = c.args.meta.now in
+    let told_0 = g.R.Rack.told (store_rack c.args.store.now) in
+    let told_1 = g.R.Rack.told (store_rack c.read_map.new.store) in
+    let told_2 = g.R.Rack.told (store_rack c.sync_all.new.self) in
+    let told_3 = g.R.Rack.told (store_rack c.mark_out.new.store) in
+    unwritten_after c.args.store.now.disks m told_0 told_1 told_3 (quiet_reads c.args.store.now.disks told_0 told_1 c.in_default.ensures.read.calls)
+    (unwritten_after c.read_map.new.store.disks m told_1 told_2 told_3 (quiet_syncs c.read_map.new.store.disks _ told_1 told_2 c.sync_all.ensures.calls) c.mark_out.ensures.recovers.unwritten)
+
 -- there are only reads, syncs and writes of logs
 map_still : (g : Over) (c : After-read_map g) → Ran (g.R.Rack.told (store_rack c.args.store.now)) (g.R.Rack.told (store_rack c.read_map.new.store)) (EachCall (IsReadOrSync c.args.store.now.disks))
     → Ran (g.R.Rack.told (store_rack c.args.store.now)) (g.R.Rack.told (store_rack c.read_map.new.store)) (EachCall WritesOnlyLogs)
@@ -342,6 +364,7 @@ returns-in-Ok g c = record {
         let at = (goal.at.returns-in-Ok g c).After-sync_all in
         c.mark_out.ensures.recovers.metas slots x said old is (synced_recovers g at slots x said old is r) (synced_metas g at slots x said old is r metas);
     once = all_once g (goal.at.returns-in-Ok g c).After-mark_out;
+    unwritten = all_unwritten g (goal.at.returns-in-Ok g c).After-mark_out;
   };
   ends = λ slots x said old is r.
       c.in-Ok.ensures.ends slots x said old is (synced_recovers g (goal.at.returns-in-Ok g c).After-sync_all slots x said old is r);
@@ -409,6 +432,7 @@ returns-in-Err-mark_out g c = record {
         let at = (goal.at.returns-in-Err-mark_out g c).After-sync_all in
         c.mark_out.ensures.recovers.metas slots x said old is (synced_recovers g at slots x said old is r) (synced_metas g at slots x said old is r metas);
     once = all_once g (goal.at.returns-in-Err-mark_out g c).After-mark_out;
+    unwritten = all_unwritten g (goal.at.returns-in-Err-mark_out g c).After-mark_out;
   };
   ends = tt;
   map = tt;
@@ -454,6 +478,7 @@ returns-in-Err-sync_all g c = record {
         (synced_recovers g (goal.at.returns-in-Err-sync_all g c).After-sync_all slots x said old is r).holds;
     metas = synced_metas g (goal.at.returns-in-Err-sync_all g c).After-sync_all;
     once = sync_once g (goal.at.returns-in-Err-sync_all g c).After-sync_all;
+    unwritten = sync_unwritten g (goal.at.returns-in-Err-sync_all g c).After-sync_all;
   };
   ends = tt;
   map = tt;
@@ -497,6 +522,7 @@ returns-in-Err g c = record {
     metas = λ slots x said old is r metas.
         read_metas g (goal.at.returns-in-Err g c).After-read_map slots x said old is (quiet_reads c.args.store.now.disks _ _ c.in-Err.ensures.two.calls) r metas;
     once = read_once g (goal.at.returns-in-Err g c).After-read_map (quiet_reads c.args.store.now.disks _ _ c.in-Err.ensures.two.calls);
+    unwritten = unwritten_quiet c.args.store.now.disks c.args.meta.now _ _ (quiet_reads c.args.store.now.disks _ _ c.in-Err.ensures.two.calls);
   };
   ends = tt;
   map = tt;

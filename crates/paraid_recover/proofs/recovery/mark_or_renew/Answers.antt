@@ -25,6 +25,8 @@ use Rattle.paraid_recover.specs.HeldMoments.{EndsHeld, KeepsHeld, Recovers, Reco
 use Rattle.paraid_recover.specs.MountCalls.{OnlyMountCalls}
 use Rattle.paraid_recover.proofs.MountCallsLemmas.{mark_calls}
 use Rattle.paraid_recover.specs.StandingMetas.{StandsInMoments}
+use Rattle.paraid_recover.specs.Still.{IsUpToDate, StaysUnwritten}
+use Rattle.paraid_recover.proofs.UnwrittenLemmas.{marked_never, unwritten_never}
 use Rattle.paraid_recover.proofs.CommitMetasLemmas.{committed_metas}
 use Rattle.paraid_txn.specs.Stores.{store_rack}
 use Rattle.paraid_recover.specs.Bearing.{BearsOnce, EndsBorne, IsNewlyNamed}
@@ -121,6 +123,16 @@ once g c two =
     open_never (gone_out m.out) (g.R.Rack.told c.args.store.now.rack) (g.R.Rack.told c.mark.new.store.rack) (EachCall (IsInLog c.args.store.now.disks)) (log_calls g c)
     (none_marked m (λ e. (g.R.Rack.slot c.args.store.now.rack e).power) c.in-Some.disk (sym c.unmarked.ensures.value ∙ c.in-Some.is))
 
+-- where one is to be marked, there is something to be brought up to date
+unwritten : (g : Over) (c : After-mark g) → StaysUnwritten (IsUpToDate c.args.meta.now) (g.R.Rack.told c.args.store.now.rack) (g.R.Rack.told c.mark.new.store.rack)
+unwritten g c =
+    let m = c.args.meta.now in
+    let slot = g.R.Rack.slot c.args.store.now.rack in
+    unwritten_never m (g.R.Rack.told c.args.store.now.rack) (g.R.Rack.told c.mark.new.store.rack) (EachCall (IsInLog c.args.store.now.disks)) (log_calls g c)
+    (λ s tells is.
+    let marks : to_mark (λ d. (slot d).power) m ≡ Some c.in-Some.disk = sym c.unmarked.ensures.value ∙ c.in-Some.is in
+    marked_never m (now s) slot c.in-Some.disk (g.met.R.Rack.agrees c.args.store.now.rack s tells) marks is)
+
 pub returns-in_err-mark : goal.returns-in_err-mark
 returns-in_err-mark g c = record {
   kept = record {
@@ -152,6 +164,7 @@ returns-in_err-mark g c = record {
     holds = holds g (goal.at.returns-in_err-mark g c).After-mark;
     metas = metas g (goal.at.returns-in_err-mark g c).After-mark;
     once = once g (goal.at.returns-in_err-mark g c).After-mark;
+    unwritten = unwritten g (goal.at.returns-in_err-mark g c).After-mark;
   };
   ends = none_done_if _ c.from_residual.result _ c.from_residual.ensures.1;
   marked = none_done_if _ c.from_residual.result _ c.from_residual.ensures.1;
@@ -186,6 +199,7 @@ returns g c = record {
     holds = holds g (goal.at.returns g c).After-mark;
     metas = metas g (goal.at.returns g c).After-mark;
     once = once g (goal.at.returns g c).After-mark;
+    unwritten = unwritten g (goal.at.returns g c).After-mark;
   };
   ends = λ slots x said old is recovers.
       let at = goal.at.returns g c in
@@ -261,6 +275,7 @@ returns-in_default g c =
         holds = c.renew.ensures.recovers.holds;
         metas = c.renew.ensures.recovers.metas;
         once = c.renew.ensures.recovers.once;
+        unwritten = c.renew.ensures.recovers.unwritten;
       };
       ends = c.renew.ensures.ends;
       marked = none_newly c.renew.result m c.renew.new.store.named (g.R.Rack.told c.args.store.now.rack) (g.R.Rack.told c.renew.new.store.rack) c.renew.ensures.given c.renew.ensures.named c.renew.ensures.ends;

@@ -21,6 +21,8 @@ use Rattle.paraid_recover.specs.MountCalls.{OnlyMountCalls}
 use Rattle.paraid_recover.specs.Quiet.{IsInLog}
 use Rattle.paraid_recover.specs.RecoveryMark.{to_mark, with_mark}
 use Rattle.paraid_recover.specs.StandingMetas.{StandsInMoments}
+use Rattle.paraid_recover.specs.Still.{IsUpToDate, StaysUnwritten}
+use Rattle.paraid_recover.proofs.UnwrittenLemmas.{unwritten_borne}
 use Rattle.paraid_recover.specs.StandingMetas.StandsForeseen.{marked}
 use Rattle.paraid_recover.proofs.BearerLemmas.{bearer_calls, bearer_clean, bearer_each, bearer_gone, bearer_log, bearer_one, bearer_synced, bearer_two, borne_sure, can_bear, log_named, not_second, one_named, second_kept}
 use Rattle.paraid_recover.proofs.BearingLemmas.{bearing_ends, bearing_holds, bearing_metas}
@@ -74,6 +76,7 @@ returns-in-Err g c = record {
     holds = c.mark_or_renew.ensures.recovers.holds;
     metas = c.mark_or_renew.ensures.recovers.metas;
     once = c.mark_or_renew.ensures.recovers.once;
+    unwritten = c.mark_or_renew.ensures.recovers.unwritten;
   };
   ends = tt;
   borne = tt;
@@ -150,6 +153,12 @@ once g c =
     let m = c.args.meta.now in
     once_then m (told_0 g c) (told_1 g c) (told_2 g c) c.mark_or_renew.ensures.recovers.once (λ two. open_named m (told_1 g c) (told_2 g c) c.bear_named.ensures.borne.kept)
 
+-- where nothing is to be brought up to date, nothing is written
+unwritten : (g : Over) (c : After-bear_named g) → StaysUnwritten (IsUpToDate c.args.meta.now) (told_0 g c) (told_2 g c)
+unwritten g c =
+    unwritten_borne c.args.store.now.disks c.args.meta.now (told_0 g c) (told_1 g c) (told_2 g c) c.mark_or_renew.ensures.recovers.unwritten c.mark_or_renew.ensures.calls (ran g c)
+    c.bear_named.ensures.borne.kept
+
 -- the log disk that the meta named out is down, and disk 2 fails
 tells : (g : Over) (c : After-bear_named g) (two : Two) → IsNamedLog (named_out c.args.meta.now.out) two.first × (two.second ≡ 2) → Ran (told_1 g c) (told_2 g c) (λ s cs. EndsByLoss (Some 2) cs)
     → TellsSecondLoss (IsOutOfCommit (λ e. (slot_0 g c e).power) c.args.store.now.disks c.args.store.now.named (mark g c)) (told_0 g c) (told_2 g c) two
@@ -202,6 +211,7 @@ returns-in-Err-bear_named g c =
         holds = holds g at;
         metas = metas g at;
         once = once g at;
+        unwritten = unwritten g at;
       };
       ends = tt;
       borne = tt;
@@ -287,6 +297,7 @@ returns-in-Ok-bear_named g c =
         holds = holds g at;
         metas = metas g at;
         once = once g at;
+        unwritten = unwritten g at;
       };
       ends = ends g ok;
       borne = borne g ok;

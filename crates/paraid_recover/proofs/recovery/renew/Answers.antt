@@ -25,7 +25,9 @@ use Rattle.paraid_recover.proofs.GoneLemmas.{gone_beside, out_named_twice}
 use Rattle.paraid_recover.proofs.MountCallsLemmas.{no_calls, renew_calls}
 use Rattle.paraid_recover.proofs.OneMarkedLemmas.{in_log}
 use Rattle.paraid_recover.proofs.OpenLemmas.{open_none}
+use Rattle.paraid_recover.proofs.UnwrittenLemmas.{unwritten_never, unwritten_none}
 use Rattle.paraid_recover.specs.StandingMetas.{StandsInMoments}
+use Rattle.paraid_recover.specs.Still.{IsUpToDate, StaysUnwritten}
 use Rattle.paraid_recover.proofs.CommitMetasLemmas.{committed_metas}
 use Rattle.paraid_recover.proofs.recovery.renew.Given.{Over}
 use Rattle.paraid_recover.proofs.recovery.renew.Goals as goal
@@ -85,6 +87,7 @@ returns-then-meta-ne1 g c = record {
     holds = λ slots x said old is recovers. recovers.holds;
     metas = λ slots x said old is recovers before. before;
     once = λ two. open_none (gone_out c.args.meta.now.out) (g.R.Rack.told c.args.store.now.rack);
+    unwritten = unwritten_none c.args.meta.now (g.R.Rack.told c.args.store.now.rack);
   };
   ends = λ slots x said old is recovers.
       subst (λ (m : Meta). EndsHeld slots x said m old (g.R.Rack.told c.args.store.now.rack)) is recovers.ends;
@@ -96,6 +99,11 @@ metas : (g : Over) (c : After-commit g) → c.args.meta.now.version ≡ 1 → (s
 metas g c one slots x said old is recovers before =
     committed_metas slots x said old (told_0 g c) (told_1 g c) (after said.meta) None (sym (renewed_one said.meta (ap (λ (m : Meta). m.version) is ∙ one))) refl (λ t tells d name. inl name)
     (next_renewed said.meta) before recovers.ends (whole g c said.meta is)
+
+-- a meta of version 1 is to be brought up to date
+unwritten : (g : Over) (c : After-commit g) → c.args.meta.now.version ≡ 1 → StaysUnwritten (IsUpToDate c.args.meta.now) (told_0 g c) (told_1 g c)
+unwritten g c one =
+    unwritten_never c.args.meta.now (told_0 g c) (told_1 g c) (EachCall (IsInLog c.args.store.now.disks)) (log_calls g c) (λ s tells is. let two = is.version_is in absurd (omega arith))
 
 pub returns-in_err-commit : goal.returns-in_err-commit
 returns-in_err-commit g c = record {
@@ -148,6 +156,10 @@ returns-in_err-commit g c = record {
         let not = c.if-meta-ne1.false in
         let one : c.args.meta.now.version ≡ 1 = grind (arith, nat_tests, not) in
         absurd (omega arith);
+    unwritten =
+        let not = c.if-meta-ne1.false in
+        let one : c.args.meta.now.version ≡ 1 = grind (arith, nat_tests, not) in
+        unwritten g (goal.at.returns-in_err-commit g c).After-commit one;
   };
   ends = none_done_if _ c.from_residual.result _ c.from_residual.ensures.1;
 }
@@ -191,6 +203,10 @@ returns g c = record {
         let not = c.if-meta-ne1.false in
         let one : c.args.meta.now.version ≡ 1 = grind (arith, nat_tests, not) in
         absurd (omega arith);
+    unwritten =
+        let not = c.if-meta-ne1.false in
+        let one : c.args.meta.now.version ≡ 1 = grind (arith, nat_tests, not) in
+        unwritten g (goal.at.returns g c).After-commit one;
   };
   ends = λ slots x said old is recovers.
       let at = (goal.at.returns g c).After-commit in
