@@ -5,7 +5,9 @@ import stat
 
 import images
 
-SOUND = "its image is there and can be read"
+# A sector further on may be bad, or writes may fail: that is not looked at, as it would keep a drive busy.
+SOUND = ("nothing is wrong with its first block, size and label: the kernel's log (dmesg) may tell why it was lost,"
+         " and the program's last lines do")
 
 
 def seen(path, disk):
