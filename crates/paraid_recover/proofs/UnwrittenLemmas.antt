@@ -16,10 +16,12 @@ use Rattle.paraid_record.specs.declared.meta.Meta.{Meta}
 use Rattle.paraid_image.specs.Calls.{disk_of, is_done}
 use Rattle.paraid_image.specs.Lost.{first_lost}
 use Rattle.paraid_image.specs.Out.{named_out}
-use Rattle.paraid_image.specs.Rest.{AreLogGatesClosed}
-use Rattle.paraid_image.specs.Sides.{LogState, has_place, is_open, stored_block}
+use Rattle.paraid_image.specs.Rest.{AreLogGatesClosed, IsAtRest}
+use Rattle.paraid_image.specs.Sides.{LogState, closed_over, has_place, is_open, stored_block}
+use Rattle.paraid_image.specs.Standing.{Stands}
 use Rattle.paraid_image.proofs.CallLemmas.{zeroed_closed}
 use Rattle.paraid_image.proofs.LostLemmas.{first_later}
+use Rattle.paraid_image.proofs.StandingLemmas.{Stands-same}
 use Rattle.paraid_txn.specs.Resume.{OnlyReadsIfClosed}
 use Rattle.paraid_txn.specs.Uses.{EachCall}
 use Rattle.paraid_txn.specs.Witness.{EachLeavesPlace, LeavesPlace}
@@ -258,3 +260,9 @@ unwritten_raised said old mid new reads raised =
     let each = first is.closed is.shut in
     calls_append WritesNothing s cs ds (EachCall-milder IsRead WritesNothing read_writes s cs each)
     (after (still_up_to_date IsRead read_leaves said.meta s cs each (none_first cs ds none) is.up_to_date) (none_later cs ds none))) old mid new reads raised
+
+-- what stands at rest is a closed gate
+pub rest_whole : (s : Disks) (m : Meta) (x : ℕ) (said : LogState) → IsAtRest s m → IsUpToDate m s → Stands s x said → IsLeftWhole said s
+rest_whole s m x said rest is stands =
+    let same = (Stands-same s x rest.disk said (closed_over m) stands rest.log.stands).1 in
+    subst (λ (o : LogState). IsLeftWhole o s) (sym same) (record { closed = refl; shut = rest.shut; up_to_date = is })

@@ -15,6 +15,7 @@ ghost use Rattle.paraid_base.specs.declared.state.Out.TheVariants.{Fresh};
 ghost use Rattle.paraid_rack.specs.Trail.{Trail, now};
 ghost use Rattle.paraid_recover.specs.HeldMoments.{EndsHeld, IsOutAtEnd, KeepsHeld, Recovers, RecoversHeld, RestsBeside};
 ghost use Rattle.paraid_recover.specs.Quiet.{IsReadOrSync};
+ghost use Rattle.paraid_recover.specs.Still.{IsLeftWhole, IsUpToDate};
 ghost use Rattle.paraid_recover.specs.Powers.{IsPowerCall};
 ghost use Rattle.paraid_rack.specs.Told.{CrashTriple, Extends, Ran};
 ghost use Rattle.paraid_txn.specs.Uses.{EachCall};
@@ -78,4 +79,10 @@ pub fn reads_leave_what_can_be_recovered()
         → ((d : ℕ) → d < 2 → is_present (t.power d) ≡ false → down ≡ Some d)
         → Stands t x said → IsResumable t x said × IsHeld slots t h lo down
         × ((w : ℕ) → IsWeak t w → down ≡ Some w) }
+{}
+
+/// An array at rest, whose meta asks a mount to bring nothing up to date, was left whole.
+pub fn an_array_at_rest_was_left_whole()
+    ensures { (s : Disks) (m : MetaType) (x : ℕ) (said : LogState)
+        → IsAtRest s m → IsUpToDate m s → Stands s x said → IsLeftWhole said s }
 {}

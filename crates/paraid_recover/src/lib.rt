@@ -59,8 +59,8 @@ pub use laws_of_mounts::{
 };
 pub use laws_of_reads::{reads_leave_the_images, reads_leave_what_is_held};
 pub use laws_of_recovery::{
-    a_disk_can_be_parked_at_rest, a_recovery_leaves_what_is_held, power_calls_keep_a_rest,
-    reads_leave_what_can_be_recovered,
+    a_disk_can_be_parked_at_rest, a_recovery_leaves_what_is_held, an_array_at_rest_was_left_whole,
+    power_calls_keep_a_rest, reads_leave_what_can_be_recovered,
 };
 pub use laws_of_refusals::{
     a_mount_is_refused_by_one_cause, a_mount_is_refused_or_goes_on,
