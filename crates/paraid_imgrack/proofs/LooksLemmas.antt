@@ -3,13 +3,17 @@ use Rattle.std.proofs.Common.{◌≡◌, ◌≢◌, ℕ, ◌<◌, ◌≤◌, ◌
 use Rattle.std.proofs.lemmas.Bool.{cases_eq, cases_lt, false≢true}
 use Rattle.std.proofs.lemmas.List.{get_or-map, get_or-set_other, get_or-set_same, length-map, map-set}
 use Rattle.paraid_base.specs.Told.{HasRisen}
+use Rattle.paraid_rack.specs.declared.call.Power.{Power}
+use Rattle.paraid_rack.specs.declared.call.Power.TheVariants.{Spinning, Parked, Absent}
+use Rattle.paraid_rack.specs.Slots.{Slot, vacant_slot}
 use Rattle.paraid_imgrack.specs.declared.identity.Identity.{Identity}
 use Rattle.paraid_imgrack.specs.declared.identity.Misfit.{Misfit}
 use Rattle.paraid_imgrack.specs.declared.identity.Misfit.TheVariants.{Moved, Foreign, Old, New, Bare}
 use Rattle.paraid_imgrack.specs.declared.image.Image.{Image}
-use Rattle.paraid_imgrack.specs.Images.{AreTrueMisfits, Fit, IsLook, image_label, image_misfit, image_tail, label_at, misfit_at, tail_at}
-use Rattle.paraid_imgrack.specs.Labels.{AreUnnamed, IsLearned, IsNamed, IsNoLess, IsTakenOver, Names, IsAmong, IsApart, Knows, SuitsBeside, SuitsOthers, known_array, label_in, label_of}
+use Rattle.paraid_imgrack.specs.Images.{AreTrueMisfits, Fit, IsDrawn, IsLook, IsMissed, image_label, image_misfit, image_slot, image_slot_at, image_tail, label_at, misfit_at, tail_at}
+use Rattle.paraid_imgrack.specs.Labels.{AreSeen, AreUnnamed, IsDeciding, IsKnownBy, IsLearned, IsNamed, IsNoLess, IsOfSlot, IsSeen, IsTakenOver, KnowsNone, Names, IsAmong, IsApart, Knows, SuitsBeside, SuitsOthers, known_array, label_in, label_of}
 use Rattle.paraid_imgrack.specs.declared.label.Label.{Label}
+use Rattle.paraid_imgrack.proofs.NamedLemmas.{deciding_by}
 use Rattle.paraid_imgrack.specs.declared.tail.Tail.{Tail}
 use Rattle.paraid_imgrack.specs.declared.tail.Tail.TheVariants.{Other}
 
@@ -24,6 +28,30 @@ none_past f images d past = get_or_past (map f images) d None (rw (length-map im
 
 pub tail_past : (images : List Image) (d : ℕ) → length images ≤ d → tail_at images d ≡ Other
 tail_past images d past = get_or_past (map image_tail images) d Other (rw (length-map images image_tail) past)
+
+pub slot_past : (images : List Image) (d : ℕ) → length images ≤ d → image_slot_at images d ≡ vacant_slot
+slot_past images d past = get_or_past (map image_slot images) d vacant_slot (rw (length-map images image_slot) past)
+
+-- a slot that is not there is not parked, and its image is not missed
+pub awake_whole : (images : List Image) (disks n : ℕ) → length images ≤ n → ((d : ℕ) → d < n → d < disks → (image_slot_at images d).power ≢ Parked)
+    → (d : ℕ) → d < disks → (image_slot_at images d).power ≢ Parked
+awake_whole images disks n all awake d within parked = elim (cases_lt d n) [
+  | inl below ↦ awake d below within parked
+  | inr past ↦ absurd (absent_parked (ap (λ (s : Slot). s.power) (sym (slot_past images d (omega (arith, past, all)))) ∙ parked))
+]
+  where
+    absent_parked : ◌≡◌ {A = Power} Absent Parked → ⊥
+    absent_parked e = cc
+
+pub unmissed_whole : (images : List Image) (i : Identity) (n : ℕ) → length images ≤ n → ((d : ℕ) → d < n → d < i.disks → IsMissed images i d → ⊥)
+    → (d : ℕ) → d < i.disks → IsMissed images i d → ⊥
+unmissed_whole images i n all none d within missed = elim (cases_lt d n) [
+  | inl below ↦ none d below within missed
+  | inr past ↦ absurd (absent_spinning (ap (λ (s : Slot). s.power) (sym (slot_past images d (omega (arith, past, all)))) ∙ missed.spins))
+]
+  where
+    absent_spinning : ◌≡◌ {A = Power} Absent Spinning → ⊥
+    absent_spinning e = cc
 
 -- what holds of each slot below the end holds of each slot
 pub none_whole : {A : Type 0} (f : Image → Option A) (images : List Image) → ((d : ℕ) → d < length images → get_or (map f images) d None ≡ None)
@@ -164,28 +192,85 @@ none_next told n before at d below = elim (cases_lt d n) [
 abbrev shown : Option (List ℕ × ℕ) → List ℕ × ℕ
 shown o = unwrap_or o ([], 0)
 
--- what takes over the array that one of the labels says is named by it
-pub IsNamed-by : (labels : ℕ → Option Label) (l : Label) (i : Identity) → IsAmong labels l → known_array (Some i) ≡ Some (l.array, l.disks) → IsNamed labels i
-IsNamed-by labels l i (d, (below, is)) same = (d, (below, rw is (sym (ap (λ (o : Option (List ℕ × ℕ)). (shown o).0) same), sym (ap (λ (o : Option (List ℕ × ℕ)). (shown o).1) same))))
+-- what takes over the array of the label that decides it is named by it
+pub IsNamed-by : (labels : ℕ → Option Label) (l : Label) (i : Identity) → IsAmong labels l → IsDeciding labels l → known_array (Some i) ≡ Some (l.array, l.disks) → IsNamed labels i
+IsNamed-by labels l i (d, (below, is)) decides same = (
+  d,
+  (
+    below,
+    subst (λ (o : Option Label). IsSomeAnd o (λ m. IsDeciding labels m × ((m.array ≡ i.array) × (m.disks ≡ i.disks)))) (sym is)
+        (decides, (sym (ap (λ (o : Option (List ℕ × ℕ)). (shown o).0) same), sym (ap (λ (o : Option (List ℕ × ℕ)). (shown o).1) same))),
+  ),
+)
 
 pub IsNamed-same : (labels : ℕ → Option Label) (old new : Identity) → known_array (Some new) ≡ known_array (Some old) → IsNamed labels old → IsNamed labels new
-IsNamed-same labels old new same (d, (below, is)) = (d, (below, subst (λ (o : Option (List ℕ × ℕ)). IsSomeAnd (labels d) (λ l. (l.array ≡ (shown o).0) × (l.disks ≡ (shown o).1))) (sym same) is))
+IsNamed-same labels old new same (d, (below, is)) = (d, (below, subst (λ (o : Option (List ℕ × ℕ)). IsSomeAnd (labels d) (λ l. IsDeciding labels l × ((l.array ≡ (shown o).0) × (l.disks ≡ (shown o).1)))) (sym same) is))
 
 unnamed_by : (labels : ℕ → Option Label) (at : ℕ → Option Label) → ((d : ℕ) → d < 8 → labels d ≡ at d) → AreUnnamed labels → AreUnnamed at
 unnamed_by labels at is none d below = subst (λ (o : Option Label). IfSome o (λ l. l.disks ≤ d)) (is d below) (none d below)
 
+named_as : (labels : ℕ → Option Label) (at : ℕ → Option Label) (i : Identity) → ((d : ℕ) → d < 8 → labels d ≡ at d) → (o : Option Label)
+    → IsSomeAnd o (λ l. IsDeciding labels l × ((l.array ≡ i.array) × (l.disks ≡ i.disks))) → IsSomeAnd o (λ l. IsDeciding at l × ((l.array ≡ i.array) × (l.disks ≡ i.disks)))
+named_as labels at i is None so = absurd so
+named_as labels at i is (Some l) so = (deciding_by labels at is l so.0, so.1)
+
 named_by : (labels : ℕ → Option Label) (at : ℕ → Option Label) (i : Identity) → ((d : ℕ) → d < 8 → labels d ≡ at d) → IsNamed labels i → IsNamed at i
-named_by labels at i is (d, (below, so)) = (d, (below, subst (λ (o : Option Label). IsSomeAnd o (λ l. (l.array ≡ i.array) × (l.disks ≡ i.disks))) (is d below) so))
+named_by labels at i is (d, (below, so)) = (d, (below, subst (λ (o : Option Label). IsSomeAnd o (λ l. IsDeciding at l × ((l.array ≡ i.array) × (l.disks ≡ i.disks)))) (is d below) (named_as labels at i is (labels d) so)))
 
 learned_by : (labels : ℕ → Option Label) (at : ℕ → Option Label) (i : Identity) → ((d : ℕ) → d < 8 → labels d ≡ at d) → IsLearned labels i → IsLearned at i
 learned_by labels at i is so d below = subst (λ (o : Option Label). IfSome o (λ l. d < i.disks → l.disk ≡ d → l.array ≡ i.array → IsTakenOver i l)) (is d below) (so d below)
 
--- what is known after a walk over the first disks that a label knows of
-pub record LearnsBelow (old now : Identity) (l : Label) (n : ℕ) : Type 0 where
+seen_by : (labels : ℕ → Option Label) (at : ℕ → Option Label) (i : Identity) → ((d : ℕ) → d < 8 → labels d ≡ at d) → AreSeen labels i → AreSeen at i
+seen_by labels at i is so d below = subst (λ (o : Option Label). IsSeen i o d) (is d below) (so d below)
+
+known_by : (labels : ℕ → Option Label) (at : ℕ → Option Label) (i : Identity) → ((d : ℕ) → d < 8 → labels d ≡ at d) → IsKnownBy labels i → IsKnownBy at i
+known_by labels at i is so = record {
+  named = named_by labels at i is so.named;
+  learned = learned_by labels at i is so.learned;
+  seen = seen_by labels at i is so.seen;
+}
+
+-- what is known after a walk over the first disks that a label of a slot knows of
+pub record LearnsBelow (old now : Identity) (l : Label) (slot n : ℕ) : Type 0 where
   pub same : known_array (Some now) ≡ known_array (Some old)
   pub kept : IsNoLess old now
   pub known : (e : ℕ) → e < n → slice_index l.known e ≤ slice_index now.known e
   pub past : HasRisen l.generation now.generation
+  pub seen : slot < 8 → slice_index now.seen slot ≡ l.generation
+  pub others : (e : ℕ) → e ≢ slot → slice_index now.seen e ≡ slice_index old.seen e
+
+-- Of the first slots it is kept how new their labels were as they were read, and of the others
+-- nothing yet.
+pub record SeenBelow (labels : ℕ → Option Label) (i : Identity) (n : ℕ) : Type 0 where
+  pub done : (d : ℕ) → d < n → IsSeen i (labels d) d
+  pub left : (d : ℕ) → n ≤ d → slice_index i.seen d ≡ 0
+
+pub SeenBelow-none : (labels : ℕ → Option Label) (i : Identity) → KnowsNone i → SeenBelow labels i 0
+SeenBelow-none labels i none = record { done = λ d below. absurd (omega (arith, below)); left = λ d _. none.seen d }
+
+of_slot_same : (old new : Identity) (l : Label) (d : ℕ) → known_array (Some new) ≡ known_array (Some old) → IsOfSlot old l d → IsOfSlot new l d
+of_slot_same old new l d same of = record {
+  within = omega (arith, of.within, ap (λ (o : Option (List ℕ × ℕ)). (shown o).1) same);
+  disk = of.disk;
+  array = of.array ∙ sym (ap (λ (o : Option (List ℕ × ℕ)). (shown o).0) same);
+}
+
+seen_kept : (o : Option Label) (old new : Identity) (d : ℕ) → known_array (Some new) ≡ known_array (Some old) → slice_index new.seen d ≡ slice_index old.seen d → IsSeen old o d → IsSeen new o d
+seen_kept None old new d same kept so = record { here = tt; none = λ _. kept ∙ so.none tt }
+seen_kept (Some l) old new d same kept so = record {
+  here = λ of. kept ∙ so.here (of_slot_same new old l d (sym same) of);
+  none = λ not. kept ∙ so.none (λ of. not (of_slot_same old new l d same of));
+}
+
+pub SeenBelow-next : (labels : ℕ → Option Label) (old new : Identity) (n : ℕ) → known_array (Some new) ≡ known_array (Some old)
+    → ((e : ℕ) → e ≢ n → slice_index new.seen e ≡ slice_index old.seen e) → (slice_index old.seen n ≡ 0 → IsSeen new (labels n) n) → SeenBelow labels old n → SeenBelow labels new (n + 1)
+SeenBelow-next labels old new n same others at so = record {
+  done = λ d below. elim (cases_lt d n) [
+    | inl before ↦ seen_kept (labels d) old new d same (others d (omega (arith, before))) (so.done d before)
+    | inr past ↦ let is : d ≡ n = omega (arith, below, past) in subst (λ (k : ℕ). IsSeen new (labels k) k) (sym is) (at (so.left n (omega arith)))
+  ];
+  left = λ d past. others d (omega (arith, past)) ∙ so.left d (omega (arith, past));
+}
 
 -- what the labels of the first slots say is known
 abbrev pub LearnedBelow : (ℕ → Option Label) → Identity → ℕ → Type 0
@@ -264,17 +349,14 @@ true_by at by i tail d (Some m) is so = (so.0, suits_by at by i tail d (Some m) 
 -- what was read names the array, what its labels know is known, and each label fits
 pub IsFitting-by : (labels : List (Option Label)) (read now : List Image) (i : Identity) (known : Option Identity) → Names (label_in labels) (Some i)
     → ((d : ℕ) → d < 8 → label_in labels d ≡ label_at read d) → map image_tail now ≡ map image_tail read → known ≡ Some i → Fit (label_in labels) now i
-    → AreUnnamed (label_at now) ⊎ IsSomeAnd known (λ j. IsNamed (label_at now) j × (IsLearned (label_at now) j × Fit (label_at now) now j))
+    → AreUnnamed (label_at now) ⊎ IsSomeAnd known (λ j. IsKnownBy (label_at now) j × Fit (label_at now) now j)
 IsFitting-by labels read now i known names is same known_is fit =
     let at : (d : ℕ) → d < 8 → label_in labels d ≡ label_at now d = (λ d below. is d below ∙ sym (ap (λ (l : List Tail). label_of (get_or l d Other)) same)) in
     elim names [
       | inl none ↦ inl (unnamed_by (label_in labels) (label_at now) at none)
-      | inr named ↦ inr (subst (λ (o : Option Identity). IsSomeAnd o (λ j. IsNamed (label_at now) j × (IsLearned (label_at now) j × Fit (label_at now) now j))) (sym known_is) (
-        named_by (label_in labels) (label_at now) i at named.0,
-        (
-          learned_by (label_in labels) (label_at now) i at named.1,
-          λ d within. suits_by (label_in labels) (label_at now) i (tail_at now d) d None at (fit d within),
-        ),
+      | inr named ↦ inr (subst (λ (o : Option Identity). IsSomeAnd o (λ j. IsKnownBy (label_at now) j × Fit (label_at now) now j)) (sym known_is) (
+        known_by (label_in labels) (label_at now) i at named,
+        λ d within. suits_by (label_in labels) (label_at now) i (tail_at now d) d None at (fit d within),
       ))
     ]
 
@@ -285,8 +367,7 @@ Names-by labels read now i known names is same known_is =
     let at : (d : ℕ) → d < 8 → label_in labels d ≡ label_at now d = (λ d below. is d below ∙ sym (ap (λ (l : List Tail). label_of (get_or l d Other)) same)) in
     elim names [
       | inl none ↦ inl (unnamed_by (label_in labels) (label_at now) at none)
-      | inr named ↦ inr (subst (λ (o : Option Identity). IsSomeAnd o (λ j. IsNamed (label_at now) j × IsLearned (label_at now) j)) (sym known_is)
-          (named_by (label_in labels) (label_at now) i at named.0, learned_by (label_in labels) (label_at now) i at named.1))
+      | inr named ↦ inr (subst (λ (o : Option Identity). IsSomeAnd o (IsKnownBy (label_at now))) (sym known_is) (known_by (label_in labels) (label_at now) i at named))
     ]
 
 pub Names-none : (labels : List (Option Label)) (images : List Image) (known : Option Identity) → Names (label_in labels) None
@@ -295,6 +376,18 @@ Names-none labels images known names is = elim names [
   | inl none ↦ inl (unnamed_by (label_in labels) (label_at images) is none)
   | inr never ↦ absurd never
 ]
+
+-- an array that got a number while these images were read has got it where they are looked at too
+pub IsDrawn-by : (labels : List (Option Label)) (read now : List Image) (i : Identity) (known : Option Identity)
+    → ((d : ℕ) → d < 8 → label_in labels d ≡ label_at read d) → map image_tail now ≡ map image_tail read → map image_slot now ≡ map image_slot read → known ≡ Some i
+    → (AreUnnamed (label_in labels) → IsDrawn read i) → AreUnnamed (label_at now) → IfSome known (IsDrawn now)
+IsDrawn-by labels read now i known is tails slots known_is drawn none =
+    let at : (d : ℕ) → d < 8 → label_at now d ≡ label_in labels d = (λ d below. ap (λ (l : List Tail). label_of (get_or l d Other)) tails ∙ sym (is d below)) in
+    let was : IsDrawn read i = drawn (unnamed_by (label_at now) (label_in labels) at none) in
+    subst (λ (o : Option Identity). IfSome o (IsDrawn now)) (sym known_is) (record {
+      awake = λ d within. subst (λ (l : List Slot). (get_or l d vacant_slot).power ≢ Parked) (sym slots) (was.awake d within);
+      new = was.new;
+    })
 
 -- where no misfit was kept before the walk
 pub AreTrueMisfits-by : (labels : List (Option Label)) (start read now : List Image) (i : Identity) (known : Option Identity) → map image_misfit read ≡ map image_misfit start

@@ -1,7 +1,7 @@
 -- What is always told of a slot, as its image has it.
-use Rattle.std.specs.Prelude.{◌≡◌, ◌≤◌, ◌<◌, ℕ, Bool, true, false, List, Option, None, Some, map, get_or, IfSome, IsSome, IsSomeAnd}
+use Rattle.std.specs.Prelude.{◌≡◌, ◌≢◌, ◌≤◌, ◌<◌, ℕ, Bool, true, false, List, Option, None, Some, map, get_or, slice_index, IfSome, IsSome, IsSomeAnd}
 use Rattle.paraid_base.specs.Told.{HasRisen}
-use Rattle.paraid_rack.specs.declared.call.Power.TheVariants.{Spinning, Absent}
+use Rattle.paraid_rack.specs.declared.call.Power.TheVariants.{Spinning, Parked, Absent}
 use Rattle.paraid_rack.specs.Slots.{Slot, vacant_slot}
 use Rattle.paraid_imgrack.specs.declared.identity.Identity.{Identity}
 use Rattle.paraid_imgrack.specs.declared.identity.Misfit.{Misfit}
@@ -10,7 +10,7 @@ use Rattle.paraid_imgrack.specs.declared.image.Image.{Image}
 use Rattle.paraid_imgrack.specs.declared.label.Label.{Label}
 use Rattle.paraid_imgrack.specs.declared.tail.Tail.{Tail}
 use Rattle.paraid_imgrack.specs.declared.tail.Tail.TheVariants.{Other}
-use Rattle.paraid_imgrack.specs.Labels.{SuitsBeside, label_of, read_tail_of}
+use Rattle.paraid_imgrack.specs.Labels.{KnowsNone, SuitsBeside, label_of, read_tail_of}
 
 -- what is told of an image
 abbrev pub image_slot : Image → Slot
@@ -90,6 +90,18 @@ Fit labels images i = (d : ℕ) → d < i.disks → SuitsBeside i labels (tail_a
 abbrev pub AreTrueMisfits : (ℕ → Option Label) → List Image → Option Identity → Type 0
 AreTrueMisfits labels images known = (d : ℕ) → IfSome (misfit_at images d) (λ m.
     IsSomeAnd known (λ i. (d < i.disks) × SuitsBeside i labels (tail_at images d) d (Some m)))
+
+-- An array to which no label belongs, and which got a number: none of its disks is parked, and
+-- nothing is known of its images.
+pub record IsDrawn (images : List Image) (i : Identity) : Type 0 where
+  pub awake : (d : ℕ) → d < i.disks → (image_slot_at images d).power ≢ Parked
+  pub new : KnowsNone i
+
+-- An image that spins has a label, but none of this generation.
+pub record IsMissed (images : List Image) (i : Identity) (d : ℕ) : Type 0 where
+  pub spins : (image_slot_at images d).power ≡ Spinning
+  pub seen : 0 < slice_index i.seen d
+  pub unmarked : slice_index i.seen d ≢ i.generation
 
 -- the first image that was found not to belong into its slot
 pub record IsFirstMisfit (images : List Image) (d : ℕ) : Type 0 where

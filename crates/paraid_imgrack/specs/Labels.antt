@@ -1,5 +1,6 @@
 -- What labels say of an image and of its array.
-use Rattle.std.specs.Prelude.{◌≡◌, ◌≢◌, ◌<◌, ◌≤◌, ◌⊎◌, ℕ, List, Option, None, Some, IfSome, IsSomeAnd, option_map, slice_index, slice_index_or}
+use Rattle.std.specs.Prelude.{◌≡◌, ◌≢◌, ◌<◌, ◌≤◌, ◌⊎◌, ◌&&◌, ℕ, List, Option, None, Some, IfSome, IsSomeAnd, bytes_eq, if◌then◌else◌, nat_lt, option_map, slice_index, slice_index_or}
+use Rattle.paraid_base.specs.Sums.{sum_before}
 use Rattle.paraid_base.specs.Told.{HasRisen}
 use Rattle.paraid_imgrack.specs.declared.identity.Identity.{Identity}
 use Rattle.paraid_imgrack.specs.declared.identity.Misfit.{Misfit}
@@ -177,10 +178,65 @@ label_in labels d = slice_index_or labels d None
 abbrev pub AreUnnamed : (ℕ → Option Label) → Type 0
 AreUnnamed labels = (d : ℕ) → d < 8 → IfSome (labels d) (λ l. l.disks ≤ d)
 
--- one of the labels says that this is the array, and how many disks it has
+-- one for the image of a slot with this label, if the slot is one of the array that `l` names and
+-- the image is of it
+abbrev pub one_of_array : Label → ℕ → Option Label → ℕ
+one_of_array l d None = 0
+one_of_array l d (Some m) = if nat_lt d l.disks && bytes_eq m.array l.array then 1 else 0
+
+-- how many images in the slots of the array that this label names are of it
+unfoldable pub of_array : (ℕ → Option Label) → Label → ℕ
+of_array labels l = sum_before (λ d. one_of_array l d (labels d)) 8
+
+-- the first label whose slot is one of its array
+pub record IsFirst (labels : ℕ → Option Label) (l : Label) : Type 0 where
+  pub slot : ℕ
+  pub low : slot < 8
+  pub here : labels slot ≡ Some l
+  pub within : slot < l.disks
+  pub before : (e : ℕ) → e < slot → IfSome (labels e) (λ m. m.disks ≤ e)
+
+-- no image in a slot of the array that this label names is of another array, by its label
+abbrev pub IsUndisputed : (ℕ → Option Label) → Label → Type 0
+IsUndisputed labels l =
+    (d : ℕ) → d < 8 → d < l.disks → IfSome (labels d) (λ m. m.array ≡ l.array)
+
+-- More images are of the array of this label than of that of `first`, and of that of each label in
+-- a slot before.
+pub record IsOver (labels : ℕ → Option Label) (first l : Label) : Type 0 where
+  pub slot : ℕ
+  pub low : slot < 8
+  pub here : labels slot ≡ Some l
+  pub more : of_array labels first < of_array labels l
+  pub before : (e : ℕ)
+      → e < slot → IfSome (labels e) (λ m. of_array labels m < of_array labels l)
+
+-- Of this label, and of that of a slot where there is one, it is that whose array more images are
+-- of; the first where as many are.
+abbrev pub IsCommoner : (ℕ → Option Label) → Label → Option Label → Label → Type 0
+IsCommoner labels most label result =
+    ((result ≡ most) × IfSome label (λ l. of_array labels l ≤ of_array labels most))
+    ⊎ ((label ≡ Some result) × (of_array labels most < of_array labels result))
+
+-- Most images are of the array of this label. Where as many are of another, it is `first`, or else
+-- the one in the first slot.
+pub record IsOfMost (labels : ℕ → Option Label) (first l : Label) : Type 0 where
+  pub most : (d : ℕ)
+      → d < 8 → IfSome (labels d) (λ m. of_array labels m ≤ of_array labels l)
+  pub place : (l ≡ first) ⊎ IsOver labels first l
+
+-- The label that says which array the images are of: the first one, if no image in a slot of its
+-- array is of another; else one whose array most are of.
+pub record IsDeciding (labels : ℕ → Option Label) (l : Label) : Type 0 where
+  pub first : Label
+  pub is_first : IsFirst labels first
+  pub rule : (IsUndisputed labels first × (l ≡ first))
+      ⊎ ((IsUndisputed labels first → ⊥) × IsOfMost labels first l)
+
+-- the label that decides it says that this is the array, and how many disks it has
 abbrev pub IsNamed : (ℕ → Option Label) → Identity → Type 0
-IsNamed labels i =
-    (d : ℕ) × ((d < 8) × IsSomeAnd (labels d) (λ l. (l.array ≡ i.array) × (l.disks ≡ i.disks)))
+IsNamed labels i = (d : ℕ) × ((d < 8) × IsSomeAnd (labels d)
+    (λ l. IsDeciding labels l × ((l.array ≡ i.array) × (l.disks ≡ i.disks))))
 
 -- Each disk's image is known to be at least as new as this label knows it, and the generation that
 -- labels get next is above its own.
@@ -199,11 +255,56 @@ pub record IsNoLess (old new : Identity) : Type 0 where
   pub known : (e : ℕ) → slice_index old.known e ≤ slice_index new.known e
   pub generation : old.generation ≤ new.generation
 
--- what is known of the array by its labels, where there is any: which it is, and how new its images
--- are
+-- this label is of the array and of this slot, which is one of it
+pub record IsOfSlot (i : Identity) (l : Label) (slot : ℕ) : Type 0 where
+  pub within : slot < i.disks
+  pub disk : l.disk ≡ slot
+  pub array : l.array ≡ i.array
+
+-- The generation of the label of this slot is kept, where there is one of the array and of the slot;
+-- else 0.
+pub record IsSeen (i : Identity) (label : Option Label) (slot : ℕ) : Type 0 where
+  pub here : IfSome label (λ l. IsOfSlot i l slot → slice_index i.seen slot ≡ l.generation)
+  pub none : IfSome label (λ l. IsOfSlot i l slot → ⊥) → slice_index i.seen slot ≡ 0
+
+-- of each slot it is kept how new its label was as it was read
+abbrev pub AreSeen : (ℕ → Option Label) → Identity → Type 0
+AreSeen labels i = (d : ℕ) → d < 8 → IsSeen i (labels d) d
+
+-- no image is known, and none was seen
+pub record KnowsNone (i : Identity) : Type 0 where
+  pub known : (e : ℕ) → slice_index i.known e ≡ 0
+  pub seen : (e : ℕ) → slice_index i.seen e ≡ 0
+
+-- Of each image the same is known and was seen as before, or that it is of the generation that
+-- labels get, which stays.
+pub record KeepsKnown (old new : Identity) : Type 0 where
+  pub generation : new.generation ≡ old.generation
+  pub images : (e : ℕ) → ((slice_index new.known e ≡ slice_index old.known e)
+      × (slice_index new.seen e ≡ slice_index old.seen e))
+      ⊎ ((slice_index new.known e ≡ old.generation) × (slice_index new.seen e ≡ old.generation))
+
+-- Of the image of this disk alone something else may be known than before: that it is of the
+-- generation that labels get now, which has not fallen.
+pub record KeepsOthers (old new : Identity) (disk : ℕ) : Type 0 where
+  pub generation : old.generation ≤ new.generation
+  pub known : (e : ℕ) → e ≢ disk → slice_index new.known e ≡ slice_index old.known e
+  pub seen : (e : ℕ) → e ≢ disk → slice_index new.seen e ≡ slice_index old.seen e
+  pub own : ((slice_index new.known disk ≡ slice_index old.known disk)
+      × (slice_index new.seen disk ≡ slice_index old.seen disk))
+      ⊎ ((slice_index new.known disk ≡ new.generation)
+      × (slice_index new.seen disk ≡ new.generation))
+
+-- what is known of the array by its labels: which it is, how new its images are, and how new each
+-- label was as it was read
+pub record IsKnownBy (labels : ℕ → Option Label) (i : Identity) : Type 0 where
+  pub named : IsNamed labels i
+  pub learned : IsLearned labels i
+  pub seen : AreSeen labels i
+
+-- where a label names an array, what is known is known by the labels
 abbrev pub Names : (ℕ → Option Label) → Option Identity → Type 0
-Names labels known =
-    AreUnnamed labels ⊎ IsSomeAnd known (λ i. IsNamed labels i × IsLearned labels i)
+Names labels known = AreUnnamed labels ⊎ IsSomeAnd known (IsKnownBy labels)
 
 -- one of the labels
 abbrev pub IsAmong : (ℕ → Option Label) → Label → Type 0

@@ -3,7 +3,7 @@ use Rattle.std.specs.Prelude.{◌≡◌, ◌<◌, ◌⊎◌, ℕ, List, None, Is
 use Rattle.paraid_imgrack.specs.declared.image.Image.{Image}
 use Rattle.paraid_imgrack.specs.declared.rack.ImageRack.{ImageRack}
 use Rattle.paraid_imgrack.specs.Images.{IsLoaded, Fit, AreTrueMisfits, hindrance_at, image_slot_at, label_at, misfit_at}
-use Rattle.paraid_imgrack.specs.Labels.{AreUnnamed, IsLearned, IsNamed, Names}
+use Rattle.paraid_imgrack.specs.Labels.{AreUnnamed, IsKnownBy, Names}
 
 -- the images of a rack
 abbrev pub images_of : {F : Type 0} → ImageRack F → List Image
@@ -28,11 +28,10 @@ pub record HasTrueMisfits {F : Type 0} (rack : ImageRack F) : Type 0 where
   pub names : Names (label_at rack.images.items) rack.identity
   pub misfits : AreTrueMisfits (label_at rack.images.items) rack.images.items rack.identity
 
--- One of the labels that were read names the array, what those of the array know is learned, each
--- that was read in a slot of it is one of its slot, no two of them are of different times, and no
--- image that was read in a known slot of it is bare; or none names an array.
+-- One of the labels that were read names the array, what those of the array say is known, each that
+-- was read in a slot of it is one of its slot, no two of them are of different times, and no image
+-- that was read in a known slot of it is bare; or none names an array.
 abbrev pub IsFitting : {F : Type 0} → ImageRack F → Type 0
 IsFitting rack = AreUnnamed (label_at rack.images.items)
-    ⊎ IsSomeAnd rack.identity (λ i. IsNamed (label_at rack.images.items) i
-    × (IsLearned (label_at rack.images.items) i
-    × Fit (label_at rack.images.items) rack.images.items i))
+    ⊎ IsSomeAnd rack.identity (λ i. IsKnownBy (label_at rack.images.items) i
+    × Fit (label_at rack.images.items) rack.images.items i)

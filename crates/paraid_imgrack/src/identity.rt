@@ -1,7 +1,7 @@
 //! Which array the labels of some images name, and which images do not belong into their slots.
-ghost use Rattle.std.specs.Prelude.{◌≡◌, ◌<◌, ◌≤◌, ℕ, true, false, slice_index, Some, IfSome, IfNone};
+ghost use Rattle.std.specs.Prelude.{◌≡◌, ◌≢◌, ◌<◌, ◌≤◌, ◌↔◌, ℕ, true, false, slice_index, Some, IfSome, IfNone, IsSomeAnd, IsTrue};
 ghost use Rattle.paraid_base.specs.Told.{HasRisen};
-ghost use Rattle.paraid_imgrack.specs.Labels.{AreUnnamed, FitsSlot, IsBehind, IsLabelOf, IsLearned, IsNamed, IsNoLess, IsAmong, IsApart, IsOfAnotherTime, IsTakenOver, IsUnheardOf, Knows, Suits, SuitsBare, SuitsBeside, SuitsLate, SuitsOthers, SuitsTail, SuitsTailLate, known_array, label_in};
+ghost use Rattle.paraid_imgrack.specs.Labels.{AreSeen, AreUnnamed, FitsSlot, IsBehind, IsCommoner, IsDeciding, IsFirst, IsLabelOf, IsLearned, IsNamed, IsNoLess, IsAmong, IsApart, IsOfAnotherTime, IsOfSlot, IsSeen, IsTakenOver, IsUndisputed, IsUnheardOf, KeepsOthers, Knows, KnowsNone, Suits, SuitsBare, SuitsBeside, SuitsLate, SuitsOthers, SuitsTail, SuitsTailLate, known_array, label_in, of_array, one_of_array};
 
 use crate::label::Label;
 use crate::tail::Tail;
@@ -68,7 +68,8 @@ pub(crate) struct Identity {
 impl Identity {
     /// That of an array of which nothing is known.
     pub(crate) fn new(array: [u8; 16], disks: u8) -> Identity
-        ensures { known_array (Some result) ≡ Some (array, disks) }
+        ensures array { known_array (Some result) ≡ Some (array, disks) }
+        ensures none { KnowsNone result }
     {
         Identity {
             array,
@@ -84,8 +85,10 @@ impl Identity {
     /// That of the array which these labels name, if there are any, for the next load.
     pub(crate) fn of(labels: &Labels) -> Option<Identity>
         ensures none { IfNone result (AreUnnamed (label_in labels.now)) }
+        ensures some { IfSome result (λ _. AreUnnamed (label_in labels.now) → ⊥) }
         ensures named { IfSome result (IsNamed (label_in labels.now)) }
         ensures learned { IfSome result (IsLearned (label_in labels.now)) }
+        ensures seen { IfSome result (AreSeen (label_in labels.now)) }
     {
         let named = named(labels)?;
         let mut identity = Identity::new(named.array, named.disks);
@@ -102,6 +105,10 @@ impl Identity {
         ensures kept { IsNoLess self.old self.new }
         ensures taken { IfSome (label_in labels.now slot) (λ l. slot < self.old.disks
             → l.disk ≡ slot → l.array ≡ self.old.array → IsTakenOver self.new l) }
+        ensures seen { slice_index self.old.seen slot ≡ 0
+            → IsSeen self.new (label_in labels.now slot) slot }
+        ensures others { (e : ℕ) → e ≢ slot
+            → slice_index self.new.seen e ≡ slice_index self.old.seen e }
     {
         if let Some(label) = labels[slot]
             && self.is_right(&label, slot as u8)
@@ -115,6 +122,9 @@ impl Identity {
         ensures same { known_array (Some self.new) ≡ known_array (Some self.old) }
         ensures kept { IsNoLess self.old self.new }
         ensures taken { IsTakenOver self.new label.now }
+        ensures seen { slot < 8 → slice_index self.new.seen slot ≡ label.now.generation }
+        ensures others { (e : ℕ) → e ≢ slot
+            → slice_index self.new.seen e ≡ slice_index self.old.seen e }
     {
         if slot < 8 {
             self.seen[slot] = label.generation;
@@ -127,9 +137,8 @@ impl Identity {
 
     // Whether a label is of this slot and of this array.
     fn is_right(&self, label: &Label, slot: DiskNo) -> bool
-        ensures slot { result ≡ true → label.now.disk ≡ slot }
-        ensures right { slot < self.now.disks
-            → label.now.disk ≡ slot → label.now.array ≡ self.now.array → result ≡ true }
+        ensures yes { result ≡ true → IsOfSlot self.now label.now slot }
+        ensures no { result ≡ false → IsOfSlot self.now label.now slot → ⊥ }
     {
         slot < self.disks && label.disk == slot && label.array == self.array
     }
@@ -331,12 +340,17 @@ impl Identity {
     }
 
     /// Whether the image of a slot had a label when it was read, or got one since.
-    pub(crate) fn is_seen(&self, disk: usize) -> bool {
+    pub(crate) fn is_seen(&self, disk: usize) -> bool
+        ensures { IsTrue result ↔ (disk < 8) × (0 < slice_index self.now.seen disk) }
+    {
         disk < 8 && 0 < self.seen[disk]
     }
 
     /// Whether the image of a slot has a label of this generation.
-    pub(crate) fn is_marked(&self, disk: usize) -> bool {
+    pub(crate) fn is_marked(&self, disk: usize) -> bool
+        ensures { IsTrue result
+            ↔ (disk < 8) × (slice_index self.now.seen disk ≡ self.now.generation) }
+    {
         disk < 8 && self.seen[disk] == self.generation
     }
 
@@ -346,6 +360,8 @@ impl Identity {
         ensures newer { HasRisen self.old.generation self.new.generation }
         ensures again { self.new.is_new ≡ true }
         ensures known { known_array (Some self.new) ≡ known_array (Some self.old) }
+        ensures later { self.old.generation ≤ self.new.generation }
+        ensures kept { (self.new.known ≡ self.old.known) × (self.new.seen ≡ self.old.seen) }
     {
         self.generation = self.generation.saturating_add(1);
         self.is_new = true;
@@ -357,6 +373,8 @@ impl Identity {
         ensures again { self.new.is_new ≡ self.old.is_new }
         ensures news { disk < 8 → self.new.has_news ≡ true }
         ensures marked { disk < 8 → slice_index self.new.known disk ≡ self.old.generation }
+        ensures seen { disk < 8 → slice_index self.new.seen disk ≡ self.old.generation }
+        ensures others { KeepsOthers self.old self.new disk }
         ensures known { known_array (Some self.new) ≡ known_array (Some self.old) }
     {
         if disk < 8 {
@@ -406,7 +424,9 @@ fn raise_known(known: &mut [u64; 8], disk: usize, generation: u64)
 // label in a slot past those of its array names none.
 fn named(labels: &Labels) -> Option<Label>
     ensures none { IfNone result (AreUnnamed (label_in labels.now)) }
+    ensures some { IfSome result (λ _. AreUnnamed (label_in labels.now) → ⊥) }
     ensures one { IfSome result (IsAmong (label_in labels.now)) }
+    ensures deciding { IfSome result (IsDeciding (label_in labels.now)) }
 {
     let first = first(labels)?;
     if is_whole(labels, &first) {
@@ -423,7 +443,8 @@ fn named(labels: &Labels) -> Option<Label>
 fn commoner(labels: &Labels, most: Label, slot: usize) -> Label
     requires slot { slot < 8 }
     requires one { IsAmong (label_in labels.now) most }
-    ensures { IsAmong (label_in labels.now) result }
+    ensures one { IsAmong (label_in labels.now) result }
+    ensures kept { IsCommoner (label_in labels.now) most (label_in labels.now slot) result }
 {
     let Some(label) = labels[slot] else {
         return most;
@@ -437,14 +458,16 @@ fn commoner(labels: &Labels, most: Label, slot: usize) -> Label
 
 // Whether a slot is one of the array that a label names.
 fn is_within(slot: usize, label: &Label) -> bool
-    ensures { result ≡ false → label.now.disks ≤ slot }
+    ensures { IsTrue result ↔ slot < label.now.disks }
 {
     slot < label.disks as usize
 }
 
 fn first(labels: &Labels) -> Option<Label>
     ensures none { IfNone result (AreUnnamed (label_in labels.now)) }
+    ensures some { IfSome result (λ _. AreUnnamed (label_in labels.now) → ⊥) }
     ensures one { IfSome result (IsAmong (label_in labels.now)) }
+    ensures first { IfSome result (IsFirst (label_in labels.now)) }
 {
     for slot in 0..8 {
         if let Some(label) = named_in(labels, slot) {
@@ -459,6 +482,7 @@ fn named_in(labels: &Labels, slot: usize) -> Option<Label>
     requires { slot < 8 }
     ensures none { IfNone result (IfSome (label_in labels.now slot) (λ l. l.disks ≤ slot)) }
     ensures one { IfSome result (λ l. label_in labels.now slot ≡ Some l) }
+    ensures within { IfSome result (λ l. slot < l.disks) }
 {
     let label = labels[slot]?;
     if is_within(slot, &label) {
@@ -469,28 +493,50 @@ fn named_in(labels: &Labels, slot: usize) -> Option<Label>
 }
 
 // Whether the images in the slots of a label's array are all of that one.
-fn is_whole(labels: &Labels, named: &Label) -> bool {
+fn is_whole(labels: &Labels, named: &Label) -> bool
+    ensures yes { result ≡ true → IsUndisputed (label_in labels.now) named.now }
+    ensures no { result ≡ false → IsUndisputed (label_in labels.now) named.now → ⊥ }
+{
     for slot in 0..8 {
-        if let Some(label) = labels[slot]
-            && is_within(slot, named)
-            && label.array != named.array
-        {
+        if is_foreign(labels, named, slot) {
             return false;
         }
     }
     true
 }
 
+// Whether the image in a slot of a label's array is of another one.
+fn is_foreign(labels: &Labels, named: &Label, slot: usize) -> bool
+    requires { slot < 8 }
+    ensures yes { result ≡ true → (slot < named.now.disks)
+        × IsSomeAnd (label_in labels.now slot) (λ l. l.array ≢ named.now.array) }
+    ensures no { result ≡ false → slot < named.now.disks
+        → IfSome (label_in labels.now slot) (λ l. l.array ≡ named.now.array) }
+{
+    match &labels[slot] {
+        Some(label) => is_within(slot, named) && label.array != named.array,
+        None => false,
+    }
+}
+
 // How many images in the slots of a label's array are of it.
-fn count(labels: &Labels, named: &Label) -> u8 {
+fn count(labels: &Labels, named: &Label) -> u8
+    ensures { result ≡ of_array (label_in labels.now) named.now }
+{
     let mut count: u8 = 0;
     for slot in 0..8 {
-        if let Some(label) = labels[slot]
-            && is_within(slot, named)
-            && label.array == named.array
-        {
-            count = count.saturating_add(1);
-        }
+        count = count.saturating_add(count_in(labels, named, slot));
     }
     count
+}
+
+// One if the image in a slot of a label's array is of it.
+fn count_in(labels: &Labels, named: &Label, slot: usize) -> u8
+    requires { slot < 8 }
+    ensures { result ≡ one_of_array named.now slot (label_in labels.now slot) }
+{
+    match &labels[slot] {
+        Some(label) if is_within(slot, named) && label.array == named.array => 1,
+        _ => 0,
+    }
 }

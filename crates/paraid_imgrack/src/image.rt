@@ -2,7 +2,7 @@
 ghost use Rattle.std.specs.Prelude.{◌≡◌, ◌≢◌, ℕ, ◌*◌, ◌/◌, ◌<◌, min, true, ◌⊎◌, false, length, slice_index, None, Some, IfOk, IfSome, IsSome, OnErr, OnOk};
 ghost use Rattle.paraid_base.specs.Told.{HasRisen};
 ghost use Rattle.paraid_imgrack.specs.declared.tail.Tail.TheVariants.{Other, Odd};
-ghost use Rattle.paraid_imgrack.specs.Labels.{FitsTailLate, known_array, label_of};
+ghost use Rattle.paraid_imgrack.specs.Labels.{FitsTailLate, KeepsOthers, known_array, label_of};
 ghost use Rattle.paraid_rack.specs.declared.call.Power.TheVariants.{Spinning, Parked, Absent};
 
 use crate::found::{Found, find, is_locked, is_want_of_room};
@@ -285,6 +285,10 @@ impl Image {
         ensures fits { OnOk result (IfSome identity.old (λ i. disk < i.disks
             → FitsTailLate i self.new.tail disk)) }
         ensures known { known_array identity.new ≡ known_array identity.old }
+        ensures others { IfSome identity.old (λ old. IfSome identity.new
+            (λ new. KeepsOthers old new disk)) }
+        ensures same { IfSome identity.old (λ old. IfSome identity.new
+            (λ new. new.generation ≡ old.generation)) }
     {
         match identity {
             Some(identity) => {
@@ -308,6 +312,8 @@ impl Image {
         ensures fits { OnOk result (disk < identity.old.disks
             → FitsTailLate identity.old self.new.tail disk) }
         ensures known { known_array (Some identity.new) ≡ known_array (Some identity.old) }
+        ensures others { KeepsOthers identity.old identity.new disk }
+        ensures same { identity.new.generation ≡ identity.old.generation }
     {
         match tail_of(&self.file, self.size) {
             Ok(tail) => self.tail = tail,
@@ -356,6 +362,8 @@ impl Image {
         ensures again { OnOk result (IfSome identity.old (λ old. IfSome identity.new
             (λ new. new.is_new ≡ true))) }
         ensures known { known_array identity.new ≡ known_array identity.old }
+        ensures others { IfSome identity.old (λ old. IfSome identity.new
+            (λ new. KeepsOthers old new disk)) }
         ensures labelled { OnOk result (IfSome identity.old (λ old. IfSome identity.new
             (λ new. disk < old.disks → disk < 8 → slice_index new.known disk ≡ new.generation))) }
         ensures mended { OnOk result ((self.new.misfit ≡ None) × (self.new.cause ≡ None)) }
@@ -497,6 +505,8 @@ fn make_image<F: Files<File = File>>(
     ensures again { OnOk result (IfSome identity.old (λ old. IfSome identity.new
         (λ new. new.is_new ≡ true))) }
     ensures known { known_array identity.new ≡ known_array identity.old }
+    ensures others { IfSome identity.old (λ old. IfSome identity.new
+        (λ new. KeepsOthers old new disk)) }
     ensures labelled { OnOk result (IfSome identity.old (λ old. IfSome identity.new
         (λ new. disk < old.disks → disk < 8 → slice_index new.known disk ≡ new.generation))) }
 {
@@ -518,6 +528,8 @@ fn label_new(
         (λ new. HasRisen old.generation new.generation)) }
     ensures again { IfSome identity.old (λ old. IfSome identity.new (λ new. new.is_new ≡ true)) }
     ensures known { known_array identity.new ≡ known_array identity.old }
+    ensures others { IfSome identity.old (λ old. IfSome identity.new
+        (λ new. KeepsOthers old new disk)) }
     ensures labelled { OnOk result (IfSome identity.old (λ old. IfSome identity.new
         (λ new. disk < old.disks → disk < 8 → slice_index new.known disk ≡ new.generation))) }
 {
@@ -537,6 +549,7 @@ fn label_newest(
     ensures newer { HasRisen identity.old.generation identity.new.generation }
     ensures again { identity.new.is_new ≡ true }
     ensures known { known_array (Some identity.new) ≡ known_array (Some identity.old) }
+    ensures others { KeepsOthers identity.old identity.new disk }
     ensures labelled { OnOk result (disk < identity.old.disks → disk < 8
         → slice_index identity.new.known disk ≡ identity.new.generation) }
 {
@@ -655,6 +668,7 @@ fn mark_image(
     ensures newer { identity.new.generation ≡ identity.old.generation }
     ensures again { identity.new.is_new ≡ identity.old.is_new }
     ensures known { known_array (Some identity.new) ≡ known_array (Some identity.old) }
+    ensures others { KeepsOthers identity.old identity.new disk }
     ensures given { IfOk result (λ given. given ≡ true → disk < 8
         → slice_index identity.new.known disk ≡ identity.new.generation) }
 {

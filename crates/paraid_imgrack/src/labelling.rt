@@ -1,8 +1,9 @@
 //! The labels of all images: they are read before the first call, and each load gives them a new
 //! generation, and so does each disk that is attached.
 ghost use Rattle.std.specs.Prelude.{◌≡◌, ◌≢◌, ◌<◌, ℕ, map, true, false, length, None, Some, IfSome, IsSome, IsSomeAnd};
-ghost use Rattle.paraid_imgrack.specs.Images.{AreTrueMisfits, Fit, image_misfit, image_slot, image_tail, label_at, misfit_at, tail_at, IsLook, IsTold};
-ghost use Rattle.paraid_imgrack.specs.Labels.{Names, SuitsBeside, known_array, label_in};
+ghost use Rattle.paraid_imgrack.specs.Images.{AreTrueMisfits, Fit, image_misfit, image_slot, image_slot_at, image_tail, label_at, misfit_at, tail_at, IsDrawn, IsLook, IsMissed, IsTold};
+ghost use Rattle.paraid_imgrack.specs.Labels.{AreUnnamed, KeepsKnown, Names, SuitsBeside, known_array, label_in};
+ghost use Rattle.paraid_rack.specs.declared.call.Power.TheVariants.{Parked};
 ghost use Rattle.paraid_imgrack.specs.Looks.{HasNoMisfits, HasTrueMisfits, IsFitting};
 
 use crate::identity::{Identity, Labels, Misfit};
@@ -46,6 +47,8 @@ impl<F: Files<File = File> + Drop> ImageRack<F> {
             → map image_misfit self.new.images.items ≡ map image_misfit self.old.images.items }
         ensures misfit { result ≡ false → (d : ℕ) × IsSome (misfit_at self.new.images.items d) }
         ensures misfits { HasNoMisfits self.old → HasTrueMisfits self.new }
+        ensures drawn { self.old.identity ≡ None → AreUnnamed (label_at self.new.images.items)
+            → IfSome self.new.identity (IsDrawn self.new.images.items) }
     {
         let labels = self.read_labels();
         let Some(identity) = self.identify(&labels) else {
@@ -96,6 +99,8 @@ impl<F: Files<File = File> + Drop> ImageRack<F> {
             ≡ map image_slot self.old.images.items }
         ensures told { IfSome self.new.identity IsTold }
         ensures known { known_array self.new.identity ≡ known_array self.old.identity }
+        ensures keeps { IfSome self.old.identity (λ old. IfSome self.new.identity
+            (KeepsKnown old)) }
     {
         if self.are_labels_due() {
             self.give_labels();
@@ -109,6 +114,8 @@ impl<F: Files<File = File> + Drop> ImageRack<F> {
             ≡ map image_slot self.old.images.items }
         ensures told { IfSome self.new.identity IsTold }
         ensures known { known_array self.new.identity ≡ known_array self.old.identity }
+        ensures keeps { IfSome self.old.identity (λ old. IfSome self.new.identity
+            (KeepsKnown old)) }
     {
         if let Some(identity) = self.identity {
             let marked = self.mark_images(identity);
@@ -132,6 +139,7 @@ impl<F: Files<File = File> + Drop> ImageRack<F> {
             ≡ map image_slot self.old.images.items }
         ensures marked { result.is_new ≡ false }
         ensures known { known_array (Some result) ≡ known_array (Some identity) }
+        ensures keeps { KeepsKnown identity result }
     {
         if !identity.is_new {
             return identity;
@@ -162,6 +170,8 @@ impl<F: Files<File = File> + Drop> ImageRack<F> {
         ensures slots { map image_slot self.new.images.items
             ≡ map image_slot self.old.images.items }
         ensures known { known_array self.new.identity ≡ known_array self.old.identity }
+        ensures told { IfSome self.old.identity (λ known.
+            self.new.identity ≡ Some (record known { has_news = false })) }
     {
         if let Some(identity) = self.identity {
             self.tell(identity);
@@ -186,7 +196,12 @@ impl<F: Files<File = File> + Drop> ImageRack<F> {
     }
 
     // Whether an image of the array that has a label could not be given one of this generation.
-    fn misses_one(&self, identity: &Identity) -> bool {
+    fn misses_one(&self, identity: &Identity) -> bool
+        ensures one { result ≡ true → (d : ℕ) × ((d < identity.now.disks)
+            × IsMissed self.now.images.items identity.now d) }
+        ensures none { result ≡ false → (d : ℕ) → d < identity.now.disks
+            → IsMissed self.now.images.items identity.now d → ⊥ }
+    {
         for disk in 0..self.images.len() {
             if disk < identity.disks as usize && self.misses(disk, identity) {
                 return true;
@@ -197,6 +212,8 @@ impl<F: Files<File = File> + Drop> ImageRack<F> {
 
     fn misses(&self, disk: usize, identity: &Identity) -> bool
         requires { disk < length self.now.images.items }
+        ensures yes { result ≡ true → IsMissed self.now.images.items identity.now disk }
+        ensures no { result ≡ false → IsMissed self.now.images.items identity.now disk → ⊥ }
     {
         !identity.is_marked(disk)
             && identity.is_seen(disk)
@@ -220,6 +237,7 @@ impl<F: Files<File = File> + Drop> ImageRack<F> {
         ensures misfits { map image_misfit self.new.images.items
             ≡ map image_misfit self.old.images.items }
         ensures labels { (d : ℕ) → d < 8 → label_in result d ≡ label_at self.new.images.items d }
+        ensures known { self.new.identity ≡ self.old.identity }
     {
         let mut labels = [None; 8];
         for disk in 0..self.images.len() {
@@ -237,6 +255,7 @@ impl<F: Files<File = File> + Drop> ImageRack<F> {
         ensures others { (e : ℕ) → e ≢ disk → label_in labels.new e ≡ label_in labels.old e }
         ensures kept { (e : ℕ) → e ≢ disk
             → label_at self.new.images.items e ≡ label_at self.old.images.items e }
+        ensures known { self.new.identity ≡ self.old.identity }
     {
         labels[disk] = self.images[disk].read_label();
     }
@@ -244,7 +263,9 @@ impl<F: Files<File = File> + Drop> ImageRack<F> {
     // The array that the images are of, by their labels. One without labels gets a number, where
     // all of its disks that are there spin, so that none of them has a label that was not read.
     fn identify(&self, labels: &Labels) -> Option<Identity>
-        ensures { Names (label_in labels.now) result }
+        ensures names { Names (label_in labels.now) result }
+        ensures drawn { AreUnnamed (label_in labels.now)
+            → IfSome result (IsDrawn self.now.images.items) }
     {
         if let Some(identity) = Identity::of(labels) {
             return Some(identity);
@@ -257,13 +278,26 @@ impl<F: Files<File = File> + Drop> ImageRack<F> {
     }
 
     // Whether one of the first disks is parked.
-    fn parks_below(&self, disks: u8) -> bool {
+    fn parks_below(&self, disks: u8) -> bool
+        ensures one { result ≡ true → (d : ℕ) × ((d < disks)
+            × ((image_slot_at self.now.images.items d).power ≡ Parked)) }
+        ensures none { result ≡ false → (d : ℕ) → d < disks
+            → (image_slot_at self.now.images.items d).power ≢ Parked }
+    {
         for disk in 0..self.images.len() {
-            if disk < disks as usize && self.images[disk].power == Power::Parked {
+            if disk < disks as usize && self.parks(disk) {
                 return true;
             }
         }
         false
+    }
+
+    fn parks(&self, disk: usize) -> bool
+        requires { disk < length self.now.images.items }
+        ensures yes { result ≡ true → (image_slot_at self.now.images.items disk).power ≡ Parked }
+        ensures no { result ≡ false → (image_slot_at self.now.images.items disk).power ≢ Parked }
+    {
+        self.images[disk].power == Power::Parked
     }
 
     // The number of disks that the first log disk with a log says.

@@ -45,6 +45,7 @@ impl<F: Files<File = File> + Drop> ImageRack<F> {
             → IsLoaded (⟦<ImageRack<F> as Rack>⟧.slot rack d)) }
         ensures opened { IfOk result IsAsOpened }
         ensures fresh { IfOk result HasNoMisfits }
+        ensures unknown { IfOk result (λ rack. rack.identity ≡ None) }
     {
         let Ok(mut images) = Vec::with_capacity(alloc, slots as usize) else {
             return Err(NoMemory);
