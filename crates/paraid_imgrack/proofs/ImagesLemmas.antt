@@ -13,11 +13,11 @@ pub image_slot_at-get_or : (images : List Image) (d : ℕ) (i : Image) → d < l
 image_slot_at-get_or images d i within is = get_or-map image_slot images d i vacant_slot within ∙ ap image_slot (sym is)
 
 module _ (images : List Image) (d : ℕ) (x : Image) (within : d < length images) where
-  image_slot_at-set_same : image_slot_at (set images d x) d ≡ image_slot x
+  pub image_slot_at-set_same : image_slot_at (set images d x) d ≡ image_slot x
   image_slot_at-set_same = ap (λ (l : List Slot). get_or l d vacant_slot) (map-set image_slot images d x)
       ∙ get_or-set_same (map image_slot images) d (image_slot x) vacant_slot (simp length-map (omega arith))
 
-  image_slot_at-set_other : (e : ℕ) → e ≢ d → image_slot_at (set images d x) e ≡ image_slot_at images e
+  pub image_slot_at-set_other : (e : ℕ) → e ≢ d → image_slot_at (set images d x) e ≡ image_slot_at images e
   image_slot_at-set_other e not = ap (λ (l : List Slot). get_or l e vacant_slot) (map-set image_slot images d x)
       ∙ get_or-set_other (map image_slot images) d e (image_slot x) vacant_slot not
 

@@ -1,3 +1,4 @@
+pub mod CallsLemmas
 pub mod ImagesLemmas
 pub mod LooksLemmas
 pub mod NamedLemmas

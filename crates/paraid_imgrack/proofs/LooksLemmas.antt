@@ -62,7 +62,7 @@ none_whole f images below d = elim (cases_lt d (length images)) [
 ]
 
 -- what was read of an image that was put into a slot, and of the others
-tail-set_same : (images : List Image) (d : ℕ) (x : Image) → d < length images → tail_at (set images d x) d ≡ image_tail x
+pub tail-set_same : (images : List Image) (d : ℕ) (x : Image) → d < length images → tail_at (set images d x) d ≡ image_tail x
 tail-set_same images d x within = ap (λ (l : List Tail). get_or l d Other) (map-set image_tail images d x) ∙ get_or-set_same (map image_tail images) d (image_tail x) Other (rw (length-map images image_tail) within)
 
 pub tail-set_other : (images : List Image) (d : ℕ) (x : Image) (e : ℕ) → e ≢ d → tail_at (set images d x) e ≡ tail_at images e
@@ -188,6 +188,20 @@ none_next told n before at d below = elim (cases_lt d n) [
   | inl less ↦ before d less
   | inr past ↦ let is : d ≡ n = omega (arith, below, past) in ap told is ∙ at
 ]
+
+-- the labels of the first slots, of which one more was read
+pub labels_next : (old new : List Image) (before after : List (Option Label)) (n : ℕ) → label_in after n ≡ label_at new n
+    → ((e : ℕ) → e ≢ n → label_in after e ≡ label_in before e) → ((e : ℕ) → e ≢ n → label_at new e ≡ label_at old e)
+    → ((d : ℕ) → d < n → label_in before d ≡ label_at old d) → (d : ℕ) → d < n + 1 → label_in after d ≡ label_at new d
+labels_next old new before after n here others kept so d below = elim (cases_lt d n) [
+  | inl less ↦ others d (λ is. omega (arith, less, is)) ∙ (so d less ∙ sym (kept d (λ is. omega (arith, less, is))))
+  | inr past ↦ let is : d ≡ n = omega (arith, below, past) in subst (λ (k : ℕ). label_in after k ≡ label_at new k) (sym is) here
+]
+
+-- of the slots past it none was read
+pub unread_next : (before after : List (Option Label)) (n : ℕ) → ((e : ℕ) → e ≢ n → label_in after e ≡ label_in before e)
+    → ((d : ℕ) → n ≤ d → label_in before d ≡ None) → (d : ℕ) → n + 1 ≤ d → label_in after d ≡ None
+unread_next before after n others none d past = others d (λ is. omega (arith, past, is)) ∙ none d (omega (arith, past))
 
 abbrev shown : Option (List ℕ × ℕ) → List ℕ × ℕ
 shown o = unwrap_or o ([], 0)

@@ -7,7 +7,7 @@ use Rattle.paraid_imgrack.specs.declared.identity.Misfit.{Misfit}
 use Rattle.paraid_imgrack.specs.declared.identity.Misfit.TheVariants.{Moved, Foreign, Old, New, Bare}
 use Rattle.paraid_imgrack.specs.declared.label.Label.{Label}
 use Rattle.paraid_imgrack.specs.declared.tail.Tail.{Tail}
-use Rattle.paraid_imgrack.specs.declared.tail.Tail.TheVariants.{Blank, Torn, Label as HasLabel, Other, Odd}
+use Rattle.paraid_imgrack.specs.declared.tail.Tail.TheVariants.{Blank, Torn, Label as HasLabel, Other, Odd, Unread}
 use Rattle.paraid_rack.specs.declared.call.Power.{Power}
 use Rattle.paraid_rack.specs.declared.call.Power.TheVariants.{Spinning, Parked, Absent}
 
@@ -23,6 +23,11 @@ label_of Torn = None
 label_of (HasLabel l) = Some l
 label_of Other = None
 label_of Odd = None
+label_of Unread = None
+
+-- A label may be written behind blocks with this tail: it is none of those that are left alone.
+abbrev pub CanHaveLabel : Tail → Type 0
+CanHaveLabel tail = (tail ≢ Other) × ((tail ≢ Odd) × (tail ≢ Unread))
 
 -- An image with this label belongs into this slot: it is of the array and of the slot, and no older
 -- than it is known to be.
@@ -125,6 +130,7 @@ SuitsTail i Blank slot misfit = SuitsBare i slot misfit
 SuitsTail i Odd slot misfit = SuitsBare i slot misfit
 SuitsTail i Torn slot misfit = misfit ≡ None
 SuitsTail i Other slot misfit = misfit ≡ None
+SuitsTail i Unread slot misfit = misfit ≡ None
 
 -- that an image with this tail, which was parked until now, belongs into this slot, or why it does
 -- not
@@ -134,6 +140,7 @@ SuitsTailLate i Blank slot misfit = SuitsBare i slot misfit
 SuitsTailLate i Odd slot misfit = SuitsBare i slot misfit
 SuitsTailLate i Torn slot misfit = misfit ≡ None
 SuitsTailLate i Other slot misfit = misfit ≡ None
+SuitsTailLate i Unread slot misfit = misfit ≡ None
 
 -- An image with this tail belongs into this slot: its label fits the slot; or it is bare and
 -- nothing is known of the slot; or its tail says nothing.

@@ -174,7 +174,7 @@ impl Identity {
         match tail {
             Tail::Label(label) => self.misfit(label, slot),
             Tail::Blank | Tail::Odd => self.bare_misfit(slot),
-            Tail::Torn | Tail::Other => None,
+            Tail::Torn | Tail::Other | Tail::Unread => None,
         }
     }
 
@@ -284,7 +284,7 @@ impl Identity {
         match tail {
             Tail::Label(label) => self.late_misfit(label, slot),
             Tail::Blank | Tail::Odd => self.bare_misfit(slot),
-            Tail::Torn | Tail::Other => None,
+            Tail::Torn | Tail::Other | Tail::Unread => None,
         }
     }
 

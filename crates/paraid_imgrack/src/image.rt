@@ -1,8 +1,8 @@
 //! One disk of the rack: a call on it is done, or it leaves the disk absent and counted as failed.
 ghost use Rattle.std.specs.Prelude.{◌≡◌, ◌≢◌, ℕ, ◌*◌, ◌/◌, ◌<◌, min, true, ◌⊎◌, false, length, slice_index, None, Some, IfOk, IfSome, IsSome, OnErr, OnOk};
 ghost use Rattle.paraid_base.specs.Told.{HasRisen};
-ghost use Rattle.paraid_imgrack.specs.declared.tail.Tail.TheVariants.{Other, Odd};
-ghost use Rattle.paraid_imgrack.specs.Labels.{FitsTailLate, KeepsOthers, known_array, label_of};
+ghost use Rattle.paraid_imgrack.specs.declared.tail.Tail.TheVariants.{Blank, Odd, Other, Unread};
+ghost use Rattle.paraid_imgrack.specs.Labels.{CanHaveLabel, FitsTailLate, KeepsOthers, known_array, label_of};
 ghost use Rattle.paraid_rack.specs.declared.call.Power.TheVariants.{Spinning, Parked, Absent};
 
 use crate::found::{Found, find, is_locked, is_want_of_room};
@@ -70,6 +70,7 @@ pub(crate) struct Image {
 
 impl Image {
     ghost use Rattle.std.specs.Prelude.{is_ok};
+    ghost use Rattle.paraid_imgrack.specs.Calls.{KeepsCause, TellsCause};
     ghost use Rattle.paraid_imgrack.specs.Images.{image_hindrance, image_label, image_misfit, image_slot, image_tail, IsLoaded, IsFailedSlot, Becomes};
 
     /// The disk as its files tell it.
@@ -103,7 +104,7 @@ impl Image {
                 unsynced: power == Power::Spinning,
                 faults: 0,
                 hindrance: None,
-                tail: Tail::Other,
+                tail: Tail::Unread,
                 misfit: None,
                 cause: None,
                 attached: false,
@@ -126,7 +127,7 @@ impl Image {
             unsynced: false,
             faults: 0,
             hindrance,
-            tail: Tail::Other,
+            tail: Tail::Unread,
             misfit: None,
             cause,
             attached: false,
@@ -139,7 +140,10 @@ impl Image {
         ensures slot { image_slot self.new ≡ image_slot self.old }
         ensures hindrance { image_hindrance self.new ≡ image_hindrance self.old }
         ensures misfit { image_misfit self.new ≡ image_misfit self.old }
+        ensures first { IsSome self.old.cause → self.new.cause ≡ self.old.cause }
         ensures kept { result ≡ image_label self.new }
+        ensures read { self.new.power ≡ Spinning
+            → (self.new.tail ≢ Unread) ⊎ IsSome self.new.cause }
     {
         if self.power != Power::Spinning {
             return None;
@@ -168,7 +172,11 @@ impl Image {
     /// Gives a disk that spins this label, and says whether it has it now. There may be no room for
     /// one, or other bytes in its place. After an error of the device the next call fails.
     pub(crate) fn give_label(&mut self, label: &Label) -> bool
-        ensures { image_slot self.new ≡ image_slot self.old }
+        ensures slot { image_slot self.new ≡ image_slot self.old }
+        ensures first { IsSome self.old.cause → self.new.cause ≡ self.old.cause }
+        ensures misfit { self.new.misfit ≡ self.old.misfit }
+        ensures tail { self.new.tail ≡ self.old.tail }
+        ensures given { result ≡ true → (self.old.power ≡ Spinning) × CanHaveLabel self.old.tail }
     {
         if self.power != Power::Spinning {
             return false;
@@ -223,8 +231,9 @@ impl Image {
         place: Place,
         into: &mut Block,
     ) -> Result<(), Failed>
-        ensures { Becomes (image_slot self.old) (image_slot self.new) (image_slot self.old)
+        ensures slot { Becomes (image_slot self.old) (image_slot self.new) (image_slot self.old)
             (image_slot self.old).unsynced (is_ok result) }
+        ensures cause { TellsCause self.old self.new (is_ok result) }
     {
         match read_block(&self.file, place, into) {
             Ok(()) => Ok(()),
@@ -240,8 +249,9 @@ impl Image {
         bytes: &[u8],
     ) -> Result<(), Failed>
         requires { (image_slot self.old).power ≡ Spinning }
-        ensures { Becomes (image_slot self.old) (image_slot self.new)
+        ensures slot { Becomes (image_slot self.old) (image_slot self.new)
             (record (image_slot self.old) { unsynced = true }) true (is_ok result) }
+        ensures cause { TellsCause self.old self.new (is_ok result) }
     {
         self.unsynced = true;
         match write_bytes(&self.file, first, bytes) {
@@ -251,9 +261,10 @@ impl Image {
     }
 
     pub(crate) fn sync<F: Files<File = File>>(&mut self, files: &F) -> Result<(), Failed>
-        ensures { Becomes (image_slot self.old) (image_slot self.new)
+        ensures slot { Becomes (image_slot self.old) (image_slot self.new)
             (record (image_slot self.old) { unsynced = false })
             (image_slot self.old).unsynced (is_ok result) }
+        ensures cause { TellsCause self.old self.new (is_ok result) }
     {
         match sync_blocks(&self.file) {
             Ok(()) => self.unsynced = false,
@@ -265,8 +276,9 @@ impl Image {
     pub(crate) fn park<F: Files<File = File>>(&mut self, files: &F) -> Result<(), Failed>
         requires spinning { (image_slot self.old).power ≡ Spinning }
         requires synced { (image_slot self.old).unsynced ≡ false }
-        ensures { Becomes (image_slot self.old) (image_slot self.new)
+        ensures slot { Becomes (image_slot self.old) (image_slot self.new)
             (record (image_slot self.old) { power = Parked }) false (is_ok result) }
+        ensures cause { TellsCause self.old self.new (is_ok result) }
     {
         self.switch(files, Power::Parked)
     }
@@ -289,6 +301,9 @@ impl Image {
             (λ new. KeepsOthers old new disk)) }
         ensures same { IfSome identity.old (λ old. IfSome identity.new
             (λ new. new.generation ≡ old.generation)) }
+        ensures cause { KeepsCause self.old.cause self.new.cause (is_ok result) }
+        ensures why { OnErr result (IsSome self.new.misfit ⊎ IsSome self.new.cause) }
+        ensures read { OnOk result (IfSome identity.old (λ _. self.new.tail ≢ Unread)) }
     {
         match identity {
             Some(identity) => {
@@ -314,6 +329,11 @@ impl Image {
         ensures known { known_array (Some identity.new) ≡ known_array (Some identity.old) }
         ensures others { KeepsOthers identity.old identity.new disk }
         ensures same { identity.new.generation ≡ identity.old.generation }
+        ensures cause { KeepsCause self.old.cause self.new.cause (is_ok result) }
+        ensures why { OnErr result (IsSome self.new.misfit ⊎ IsSome self.new.cause) }
+        ensures read { OnOk result (self.new.tail ≢ Unread) }
+        ensures given { OnOk result ((identity.new ≡ identity.old)
+            ⊎ CanHaveLabel self.new.tail) }
     {
         match tail_of(&self.file, self.size) {
             Ok(tail) => self.tail = tail,
@@ -335,7 +355,7 @@ impl Image {
         requires synced { (image_slot self.old).unsynced ≡ false }
         ensures slot { Becomes (image_slot self.old) (image_slot self.new)
             (record (image_slot self.old) { power = power }) false (is_ok result) }
-        ensures kept { OnOk result (self.new.tail ≡ self.old.tail) }
+        ensures cause { TellsCause self.old self.new (is_ok result) }
     {
         match self.names.store(files, power) {
             Ok(()) => self.power = power,
@@ -367,6 +387,7 @@ impl Image {
         ensures labelled { OnOk result (IfSome identity.old (λ old. IfSome identity.new
             (λ new. disk < old.disks → disk < 8 → slice_index new.known disk ≡ new.generation))) }
         ensures mended { OnOk result ((self.new.misfit ≡ None) × (self.new.cause ≡ None)) }
+        ensures blank { OnOk result (self.new.tail ≡ Blank) }
         ensures why { OnErr result (IsSome self.new.misfit ⊎ IsSome self.new.cause) }
     {
         self.file = None; // and its lock
@@ -396,7 +417,7 @@ impl Image {
     // There is no disk from now on, and why is kept, unless a call has failed before.
     fn fail_by<F: Files<File = File>>(&mut self, files: &F, error: io::Error) -> Failed
         ensures slot { IsFailedSlot (image_slot self.old) (image_slot self.new) }
-        ensures why { IsSome self.new.cause }
+        ensures cause { TellsCause self.old self.new false }
     {
         self.cause = self.cause.or(Some(error));
         self.fail(files)
@@ -407,6 +428,7 @@ impl Image {
         ensures slot { IsFailedSlot (image_slot self.old) (image_slot self.new) }
         ensures misfit { self.new.misfit ≡ self.old.misfit }
         ensures cause { self.new.cause ≡ self.old.cause }
+        ensures tail { self.new.tail ≡ self.old.tail }
     {
         self.names.store_failed(files);
         self.file = None;
@@ -619,7 +641,9 @@ fn sync_blocks(file: &Option<File>) -> io::Result<()> {
     Ok(())
 }
 
-fn tail_of(file: &Option<File>, size: u32) -> io::Result<Tail> {
+fn tail_of(file: &Option<File>, size: u32) -> io::Result<Tail>
+    ensures { IfOk result (λ tail. tail ≢ Unread) }
+{
     match file {
         Some(file) => read_tail(file, size),
         None => Ok(Tail::Other),
@@ -631,19 +655,19 @@ fn label_in(tail: &Tail) -> Option<Label>
 {
     match tail {
         Tail::Label(label) => Some(*label),
-        Tail::Blank | Tail::Torn | Tail::Other | Tail::Odd => None,
+        Tail::Blank | Tail::Torn | Tail::Other | Tail::Odd | Tail::Unread => None,
     }
 }
 
 // Writes a label where one can stand, and syncs the image. Where there is no room for it, it is
 // left out.
 fn put_label(file: &Option<File>, size: u32, tail: &Tail, label: &Label) -> io::Result<bool>
-    ensures { IfOk result (λ given. given ≡ true → (tail.now ≢ Other) × (tail.now ≢ Odd)) }
+    ensures { IfOk result (λ given. given ≡ true → CanHaveLabel tail.now) }
 {
     let Some(file) = file else {
         return Err(not_open());
     };
-    if let Tail::Other | Tail::Odd = tail {
+    if let Tail::Other | Tail::Odd | Tail::Unread = tail {
         return Ok(false);
     }
     match write_label(file, size, label) {
@@ -671,6 +695,8 @@ fn mark_image(
     ensures others { KeepsOthers identity.old identity.new disk }
     ensures given { IfOk result (λ given. given ≡ true → disk < 8
         → slice_index identity.new.known disk ≡ identity.new.generation) }
+    ensures over { IfOk result (λ given. given ≡ true → CanHaveLabel tail.now) }
+    ensures kept { IfOk result (λ given. given ≡ false → identity.new ≡ identity.old) }
 {
     if disk < identity.disks && put_label(file, size, tail, &identity.label(disk, true))? {
         identity.mark(disk as usize);

@@ -1,10 +1,11 @@
 //! The labels of all images: they are read before the first call, and each load gives them a new
 //! generation, and so does each disk that is attached.
 ghost use Rattle.std.specs.Prelude.{◌≡◌, ◌≢◌, ◌<◌, ℕ, map, true, false, length, None, Some, IfSome, IsSome, IsSomeAnd};
+ghost use Rattle.paraid_imgrack.specs.Calls.{IsLookedAt, KeepsCauses, KeepsFound, cause_at, image_cause};
 ghost use Rattle.paraid_imgrack.specs.Images.{AreTrueMisfits, Fit, image_misfit, image_slot, image_slot_at, image_tail, label_at, misfit_at, tail_at, IsDrawn, IsLook, IsMissed, IsTold};
 ghost use Rattle.paraid_imgrack.specs.Labels.{AreUnnamed, KeepsKnown, Names, SuitsBeside, known_array, label_in};
-ghost use Rattle.paraid_rack.specs.declared.call.Power.TheVariants.{Parked};
 ghost use Rattle.paraid_imgrack.specs.Looks.{HasNoMisfits, HasTrueMisfits, IsFitting};
+ghost use Rattle.paraid_rack.specs.declared.call.Power.TheVariants.{Parked};
 
 use crate::identity::{Identity, Labels, Misfit};
 use crate::image::Claim;
@@ -49,6 +50,8 @@ impl<F: Files<File = File> + Drop> ImageRack<F> {
         ensures misfits { HasNoMisfits self.old → HasTrueMisfits self.new }
         ensures drawn { self.old.identity ≡ None → AreUnnamed (label_at self.new.images.items)
             → IfSome self.new.identity (IsDrawn self.new.images.items) }
+        ensures read { (d : ℕ) → IsLookedAt self.new.images.items d }
+        ensures causes { KeepsCauses self.old.images.items self.new.images.items }
     {
         let labels = self.read_labels();
         let Some(identity) = self.identify(&labels) else {
@@ -71,7 +74,9 @@ impl<F: Files<File = File> + Drop> ImageRack<F> {
 
     /// Why the first call on a disk failed that did, or why it was lost at the load; of a disk that
     /// was to be attached, since then.
-    pub fn cause(&self, disk: DiskNo) -> Option<io::Error> {
+    pub fn cause(&self, disk: DiskNo) -> Option<io::Error>
+        ensures { result ≡ cause_at self.now.images.items disk }
+    {
         if (disk as usize) < self.images.len() {
             self.images[disk as usize].cause
         } else {
@@ -101,6 +106,7 @@ impl<F: Files<File = File> + Drop> ImageRack<F> {
         ensures known { known_array self.new.identity ≡ known_array self.old.identity }
         ensures keeps { IfSome self.old.identity (λ old. IfSome self.new.identity
             (KeepsKnown old)) }
+        ensures found { KeepsFound self.old.images.items self.new.images.items }
     {
         if self.are_labels_due() {
             self.give_labels();
@@ -116,6 +122,7 @@ impl<F: Files<File = File> + Drop> ImageRack<F> {
         ensures known { known_array self.new.identity ≡ known_array self.old.identity }
         ensures keeps { IfSome self.old.identity (λ old. IfSome self.new.identity
             (KeepsKnown old)) }
+        ensures found { KeepsFound self.old.images.items self.new.images.items }
     {
         if let Some(identity) = self.identity {
             let marked = self.mark_images(identity);
@@ -140,6 +147,7 @@ impl<F: Files<File = File> + Drop> ImageRack<F> {
         ensures marked { result.is_new ≡ false }
         ensures known { known_array (Some result) ≡ known_array (Some identity) }
         ensures keeps { KeepsKnown identity result }
+        ensures found { KeepsFound self.old.images.items self.new.images.items }
     {
         if !identity.is_new {
             return identity;
@@ -156,7 +164,9 @@ impl<F: Files<File = File> + Drop> ImageRack<F> {
 
     // Whether the image in a slot of the array has the label of this generation from now on.
     fn mark_image(&mut self, disk: usize, identity: &Identity, is_heard: bool) -> bool
-        ensures { map image_slot self.new.images.items ≡ map image_slot self.old.images.items }
+        ensures slots { map image_slot self.new.images.items
+            ≡ map image_slot self.old.images.items }
+        ensures found { KeepsFound self.old.images.items self.new.images.items }
     {
         if disk >= self.images.len() || disk >= identity.disks as usize {
             return false;
@@ -172,6 +182,7 @@ impl<F: Files<File = File> + Drop> ImageRack<F> {
         ensures known { known_array self.new.identity ≡ known_array self.old.identity }
         ensures told { IfSome self.old.identity (λ known.
             self.new.identity ≡ Some (record known { has_news = false })) }
+        ensures found { KeepsFound self.old.images.items self.new.images.items }
     {
         if let Some(identity) = self.identity {
             self.tell(identity);
@@ -185,6 +196,7 @@ impl<F: Files<File = File> + Drop> ImageRack<F> {
         ensures slots { map image_slot self.new.images.items
             ≡ map image_slot self.old.images.items }
         ensures told { self.new.identity ≡ Some (record identity { has_news = false }) }
+        ensures found { KeepsFound self.old.images.items self.new.images.items }
     {
         let mut is_heard = !self.misses_one(&identity);
         for disk in 0..self.images.len() {
@@ -224,7 +236,9 @@ impl<F: Files<File = File> + Drop> ImageRack<F> {
     // that has failed since it was marked has not: it may come back by another hand.
     fn mark_again(&mut self, disk: usize, identity: &Identity, is_heard: bool) -> bool
         requires { disk < length self.old.images.items }
-        ensures { map image_slot self.new.images.items ≡ map image_slot self.old.images.items }
+        ensures slots { map image_slot self.new.images.items
+            ≡ map image_slot self.old.images.items }
+        ensures found { KeepsFound self.old.images.items self.new.images.items }
     {
         if !identity.has_news || !identity.is_marked(disk) {
             return true;
@@ -238,6 +252,8 @@ impl<F: Files<File = File> + Drop> ImageRack<F> {
             ≡ map image_misfit self.old.images.items }
         ensures labels { (d : ℕ) → d < 8 → label_in result d ≡ label_at self.new.images.items d }
         ensures known { self.new.identity ≡ self.old.identity }
+        ensures read { (d : ℕ) → IsLookedAt self.new.images.items d }
+        ensures causes { KeepsCauses self.old.images.items self.new.images.items }
     {
         let mut labels = [None; 8];
         for disk in 0..self.images.len() {
@@ -256,6 +272,10 @@ impl<F: Files<File = File> + Drop> ImageRack<F> {
         ensures kept { (e : ℕ) → e ≢ disk
             → label_at self.new.images.items e ≡ label_at self.old.images.items e }
         ensures known { self.new.identity ≡ self.old.identity }
+        ensures causes { KeepsCauses self.old.images.items self.new.images.items }
+        ensures read { IsLookedAt self.new.images.items disk }
+        ensures left { (e : ℕ) → e ≢ disk → IsLookedAt self.old.images.items e
+            → IsLookedAt self.new.images.items e }
     {
         labels[disk] = self.images[disk].read_label();
     }
@@ -318,6 +338,8 @@ impl<F: Files<File = File> + Drop> ImageRack<F> {
         ensures look { IsLook self.old.images.items self.new.images.items }
         ensures tails { map image_tail self.new.images.items
             ≡ map image_tail self.old.images.items }
+        ensures causes { map image_cause self.new.images.items
+            ≡ map image_cause self.old.images.items }
         ensures known { self.new.identity ≡ self.old.identity }
         ensures fits { result ≡ true
             → Fit (label_in labels.now) self.new.images.items identity.now }
@@ -340,6 +362,8 @@ impl<F: Files<File = File> + Drop> ImageRack<F> {
         ensures look { IsLook self.old.images.items self.new.images.items }
         ensures tails { map image_tail self.new.images.items
             ≡ map image_tail self.old.images.items }
+        ensures causes { map image_cause self.new.images.items
+            ≡ map image_cause self.old.images.items }
         ensures known { self.new.identity ≡ self.old.identity }
         ensures fits { result ≡ true → disk < identity.now.disks
             → SuitsBeside identity.now (label_in labels.now)

@@ -133,9 +133,18 @@ impl<F: Files<File = File> + Drop> ImageRack<F> {
 }
 
 impl<F: Files<File = File> + Drop> Rack for ImageRack<F> {
-    ghost use Rattle.std.specs.Prelude.{None};
-    ghost use Rattle.paraid_imgrack.specs.Images.{image_slot_at};
+    ghost use Rattle.std.specs.Prelude.{◌≢◌, ◌<◌, ◌⊎◌, true, false, slice_index, None, Some, IfSome, IsSome, OnErr, OnOk, is_ok};
+    ghost use Rattle.paraid_base.specs.Told.{HasRisen};
+    ghost use Rattle.paraid_rack.specs.declared.call.Call.TheVariants.{Attach, Park, Read, SpinUp, Sync, Write};
+    ghost use Rattle.paraid_rack.specs.declared.call.Power.TheVariants.{Spinning, Parked};
+    ghost use Rattle.paraid_rack.specs.Slots.{ChangesOneSlot};
+    ghost use Rattle.paraid_rack.specs.Told.{GrowsByCall};
+    ghost use Rattle.paraid_rack.specs.Trail.{Trail, now};
+    ghost use Rattle.paraid_imgrack.specs.Calls.{KeepsCause, KeepsFound, KeepsOthers, TellsCauseAt, cause_at};
+    ghost use Rattle.paraid_imgrack.specs.Images.{IsTold, image_slot_at, misfit_at, tail_at};
+    ghost use Rattle.paraid_imgrack.specs.Labels.{FitsTailLate, known_array};
     ghost use Rattle.paraid_imgrack.specs.Laws.{are_slots, nothing_told};
+    ghost use Rattle.paraid_imgrack.specs.declared.tail.Tail.TheVariants.{Unread};
 
     ghost slot_count = { λ rack. length rack.images.items };
 
@@ -165,39 +174,161 @@ impl<F: Files<File = File> + Drop> Rack for ImageRack<F> {
         self.images[disk as usize].unsynced
     }
 
-    fn read(&mut self, disk: DiskNo, place: Place, into: &mut Block) -> Result<(), Failed> {
+    fn read(&mut self, disk: DiskNo, place: Place, into: &mut Block) -> Result<(), Failed>
+        requires exists { disk < length self.old.images.items }
+        requires spinning { (image_slot_at self.old.images.items disk).power ≡ Spinning }
+        requires within { place < (image_slot_at self.old.images.items disk).size }
+        ensures slots { length self.new.images.items ≡ length self.old.images.items }
+        ensures slot { ChangesOneSlot (image_slot_at self.old.images.items)
+            (image_slot_at self.new.images.items) disk
+            (image_slot_at self.old.images.items disk)
+            (image_slot_at self.old.images.items disk).unsynced (is_ok result) }
+        ensures told { GrowsByCall None None (Read disk place (is_ok result)) }
+        ensures bytes { OnOk result ((t : Trail) → None ≡ Some t
+            → into.new ≡ (now t).block disk place) }
+        ensures known { self.new.identity ≡ self.old.identity }
+        ensures causes { TellsCauseAt self.old.images.items self.new.images.items disk
+            (is_ok result) }
+    {
         self.images[disk as usize].read(&self.files, place, into)
     }
 
-    fn write(&mut self, disk: DiskNo, place: Place, block: &Block) -> Result<(), Failed> {
+    fn write(&mut self, disk: DiskNo, place: Place, block: &Block) -> Result<(), Failed>
+        requires exists { disk < length self.old.images.items }
+        requires spinning { (image_slot_at self.old.images.items disk).power ≡ Spinning }
+        requires within { place < (image_slot_at self.old.images.items disk).size }
+        ensures slots { length self.new.images.items ≡ length self.old.images.items }
+        ensures slot { ChangesOneSlot (image_slot_at self.old.images.items)
+            (image_slot_at self.new.images.items) disk
+            (record (image_slot_at self.old.images.items disk) { unsynced = true })
+            true (is_ok result) }
+        ensures told { GrowsByCall None None (Write disk place block.now (is_ok result)) }
+        ensures known { self.new.identity ≡ self.old.identity }
+        ensures causes { TellsCauseAt self.old.images.items self.new.images.items disk
+            (is_ok result) }
+    {
         self.images[disk as usize].write(&self.files, place, block.as_slice())
     }
 
-    fn sync(&mut self, disk: DiskNo) -> Result<(), Failed> {
+    /// The labels are brought up to date first, where there is news.
+    fn sync(&mut self, disk: DiskNo) -> Result<(), Failed>
+        requires exists { disk < length self.old.images.items }
+        requires spinning { (image_slot_at self.old.images.items disk).power ≡ Spinning }
+        ensures slots { length self.new.images.items ≡ length self.old.images.items }
+        ensures slot { ChangesOneSlot (image_slot_at self.old.images.items)
+            (image_slot_at self.new.images.items) disk
+            (record (image_slot_at self.old.images.items disk) { unsynced = false })
+            (image_slot_at self.old.images.items disk).unsynced (is_ok result) }
+        ensures told { GrowsByCall None None (Sync disk (is_ok result)) }
+        ensures known { known_array self.new.identity ≡ known_array self.old.identity }
+        ensures labels { IfSome self.new.identity IsTold }
+        ensures found { KeepsFound self.old.images.items self.new.images.items }
+        ensures why { is_ok result ≡ false → IsSome (cause_at self.new.images.items disk) }
+    {
         self.renew_labels();
         self.images[disk as usize].sync(&self.files)
     }
 
-    fn park(&mut self, disk: DiskNo) -> Result<(), Failed> {
+    fn park(&mut self, disk: DiskNo) -> Result<(), Failed>
+        requires exists { disk < length self.old.images.items }
+        requires spinning { (image_slot_at self.old.images.items disk).power ≡ Spinning }
+        requires synced { (image_slot_at self.old.images.items disk).unsynced ≡ false }
+        ensures slots { length self.new.images.items ≡ length self.old.images.items }
+        ensures slot { ChangesOneSlot (image_slot_at self.old.images.items)
+            (image_slot_at self.new.images.items) disk
+            (record (image_slot_at self.old.images.items disk) { power = Parked })
+            false (is_ok result) }
+        ensures told { GrowsByCall None None (Park disk (is_ok result)) }
+        ensures known { self.new.identity ≡ self.old.identity }
+        ensures causes { TellsCauseAt self.old.images.items self.new.images.items disk
+            (is_ok result) }
+    {
         self.images[disk as usize].park(&self.files)
     }
 
-    fn spin_up(&mut self, disk: DiskNo) -> Result<(), Failed> {
+    /// An image that does not fit into its slot is left as it is, and its disk has failed.
+    fn spin_up(&mut self, disk: DiskNo) -> Result<(), Failed>
+        requires exists { disk < length self.old.images.items }
+        requires parked { (image_slot_at self.old.images.items disk).power ≡ Parked }
+        ensures slots { length self.new.images.items ≡ length self.old.images.items }
+        ensures slot { ChangesOneSlot (image_slot_at self.old.images.items)
+            (image_slot_at self.new.images.items) disk
+            (record (image_slot_at self.old.images.items disk) { power = Spinning })
+            false (is_ok result) }
+        ensures told { GrowsByCall None None (SpinUp disk (is_ok result)) }
+        ensures known { known_array self.new.identity ≡ known_array self.old.identity }
+        ensures fits { OnOk result (IfSome self.old.identity (λ i. disk < i.disks
+            → FitsTailLate i (tail_at self.new.images.items disk) disk)) }
+        ensures read { OnOk result (IfSome self.old.identity
+            (λ _. tail_at self.new.images.items disk ≢ Unread)) }
+        ensures others { KeepsOthers self.old.images.items self.new.images.items disk }
+        ensures cause { KeepsCause (cause_at self.old.images.items disk)
+            (cause_at self.new.images.items disk) (is_ok result) }
+        ensures why { OnErr result (IsSome (misfit_at self.new.images.items disk)
+            ⊎ IsSome (cause_at self.new.images.items disk)) }
+    {
         self.images[disk as usize].spin_up(&self.files, &mut self.identity, disk)
     }
 
-    fn attach(&mut self, disk: DiskNo, size: u32) -> Result<(), Failed> {
+    /// The image is newer than each that has a label. What was told of the disk before is no more.
+    fn attach(&mut self, disk: DiskNo, size: u32) -> Result<(), Failed>
+        requires exists { disk < length self.old.images.items }
+        ensures slots { length self.new.images.items ≡ length self.old.images.items }
+        ensures slot { ChangesOneSlot (image_slot_at self.old.images.items)
+            (image_slot_at self.new.images.items) disk
+            (record (image_slot_at self.old.images.items disk)
+            { power = Spinning; size = size; unsynced = false })
+            (image_slot_at self.old.images.items disk).unsynced (is_ok result) }
+        ensures told { GrowsByCall None None (Attach disk size (is_ok result)) }
+        ensures known { known_array self.new.identity ≡ known_array self.old.identity }
+        ensures newer { OnOk result (IfSome self.old.identity (λ old. IfSome self.new.identity
+            (λ new. HasRisen old.generation new.generation))) }
+        ensures again { OnOk result (IfSome self.old.identity (λ old. IfSome self.new.identity
+            (λ new. new.is_new ≡ true))) }
+        ensures labelled { OnOk result (IfSome self.old.identity (λ old. IfSome self.new.identity
+            (λ new. disk < old.disks → disk < 8
+            → slice_index new.known disk ≡ new.generation))) }
+        ensures others { KeepsOthers self.old.images.items self.new.images.items disk }
+        ensures mended { OnOk result ((misfit_at self.new.images.items disk ≡ None)
+            × (cause_at self.new.images.items disk ≡ None)) }
+        ensures why { OnErr result (IsSome (misfit_at self.new.images.items disk)
+            ⊎ IsSome (cause_at self.new.images.items disk)) }
+    {
         self.images[disk as usize].attach(&self.files, &mut self.identity, disk, size)
     }
 }
 
 impl<F: Files<File = File> + Drop> BulkRack for ImageRack<F> {
+    ghost use Rattle.std.specs.Prelude.{◌+◌, ◌<◌, true, None, is_ok};
+    ghost use Rattle.paraid_rack.specs.declared.call.Power.TheVariants.{Spinning};
+    ghost use Rattle.paraid_rack.specs.Slots.{ChangesOneSlot};
+    ghost use Rattle.paraid_rack.specs.Told.{Ran};
+    ghost use Rattle.paraid_gather.specs.Bulk.{WritesBlocks};
+    ghost use Rattle.paraid_imgrack.specs.Calls.{TellsCauseAt};
+    ghost use Rattle.paraid_imgrack.specs.Images.{image_slot_at};
+
     fn write_blocks(
         &mut self,
         disk: DiskNo,
         first: Place,
         blocks: &[[u8; BLOCK_SIZE]],
-    ) -> Result<(), Failed> {
+    ) -> Result<(), Failed>
+        requires exists { disk < length self.old.images.items }
+        requires spinning { (image_slot_at self.old.images.items disk).power ≡ Spinning }
+        requires some { 0 < length blocks.now }
+        requires within { first + length blocks.now
+            ≤ (image_slot_at self.old.images.items disk).size }
+        ensures slots { length self.new.images.items ≡ length self.old.images.items }
+        ensures slot { ChangesOneSlot (image_slot_at self.old.images.items)
+            (image_slot_at self.new.images.items) disk
+            (record (image_slot_at self.old.images.items disk) { unsynced = true })
+            true (is_ok result) }
+        ensures told { Ran None None
+            (WritesBlocks disk (record { first = first; blocks = blocks.now }) (is_ok result)) }
+        ensures known { self.new.identity ≡ self.old.identity }
+        ensures causes { TellsCauseAt self.old.images.items self.new.images.items disk
+            (is_ok result) }
+    {
         self.images[disk as usize].write(&self.files, first, blocks.as_flattened())
     }
 }

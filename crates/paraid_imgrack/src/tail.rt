@@ -1,5 +1,6 @@
 //! What stands behind the last block of an image: a label, or room for one.
-ghost use Rattle.std.specs.Prelude.{◌≡◌, ◌*◌};
+ghost use Rattle.std.specs.Prelude.{◌≡◌, ◌≢◌, ◌*◌, IfOk};
+ghost use Rattle.paraid_imgrack.specs.declared.tail.Tail.TheVariants.{Unread};
 
 use crate::label::{LABEL_SIZE, Label, names_array, was_label};
 use paraid_base::BLOCK_SIZE;
@@ -19,6 +20,8 @@ pub(crate) enum Tail {
     Other,
     /// A tail of another length, which is left alone too.
     Odd,
+    /// It was not looked at yet, and is left alone until it is.
+    Unread,
 }
 
 // Where the blocks of an image end, in bytes.
@@ -30,7 +33,9 @@ fn end(size: u32) -> u64
 
 /// What stands behind the blocks of an image of this size. A file without a block has no place for
 /// a label.
-pub(crate) fn read_tail(file: &File, size: u32) -> io::Result<Tail> {
+pub(crate) fn read_tail(file: &File, size: u32) -> io::Result<Tail>
+    ensures { IfOk result (λ tail. tail ≢ Unread) }
+{
     if size == 0 {
         return Ok(Tail::Other);
     }
@@ -53,7 +58,9 @@ pub(crate) fn is_torn_of(file: &File, size: u32, array: &[u8; 16]) -> io::Result
     Ok(names_array(&text, array))
 }
 
-fn tail_of(text: &[u8; LABEL_SIZE]) -> Tail {
+fn tail_of(text: &[u8; LABEL_SIZE]) -> Tail
+    ensures { result ≢ Unread }
+{
     match Label::read(text) {
         Some(label) => Tail::Label(label),
         None if was_label(text) => Tail::Torn,
