@@ -4,8 +4,10 @@ use Rattle.std.proofs.Math.Seq.{get_or-append_seam}
 use Rattle.std.proofs.lemmas.Bool.{cases_lt}
 use Rattle.std.proofs.lemmas.List.{map-set, map-append, length-append, get_or_append_left, get_or-set_same, get_or-set_other, length-map, get_or-map}
 use Rattle.paraid_base.specs.Told.{HasRisen}
+use Rattle.paraid_rack.specs.declared.call.Power.TheVariants.{Absent}
 use Rattle.paraid_rack.specs.Slots.{ChangesOneSlot, Slot, vacant_slot}
 use Rattle.paraid_imgrack.specs.declared.image.Image.{Image}
+use Rattle.paraid_imgrack.specs.Calls.{IsBlameless, image_cause}
 use Rattle.paraid_imgrack.specs.Images.{image_misfit, image_slot, image_slot_at, misfit_at, IsLoaded, Becomes}
 
 -- the slot of an image in its place
@@ -62,9 +64,10 @@ pub record AreLoaded (images : List Image) (n : ℕ) : Type 0 where
   pub number : length images ≡ n
   pub loaded : (d : ℕ) → d < n → IsLoaded (image_slot_at images d)
   pub fresh : (d : ℕ) → d < n → misfit_at images d ≡ None
+  pub clean : (d : ℕ) → d < n → IsBlameless images d
 
 pub AreLoaded-none : (images : List Image) → images ≡ [] → AreLoaded images 0
-AreLoaded-none images e = record { number = rw e refl; loaded = λ d below. absurd (omega (arith, below)); fresh = λ d below. absurd (omega (arith, below)) }
+AreLoaded-none images e = record { number = rw e refl; loaded = λ d below. absurd (omega (arith, below)); fresh = λ d below. absurd (omega (arith, below)); clean = λ d below. absurd (omega (arith, below)) }
 
 -- what is told of an image that was added at the end, and of those before it
 module _ {B : Type 0} (f : Image → B) (none : B) (images : List Image) (x : Image) where
@@ -76,8 +79,8 @@ module _ {B : Type 0} (f : Image → B) (none : B) (images : List Image) (x : Im
       let last : d ≡ length (map f images) = e ∙ sym (length-map images f) in
       rw (map-append f images (x ∷ []), last) (get_or-append_seam (map f images) (f x) [] none)
 
-pub AreLoaded-push : (images : List Image) (x : Image) (n : ℕ) → AreLoaded images n → IsLoaded (image_slot x) → image_misfit x ≡ None → AreLoaded (images ++ x ∷ []) (n + 1)
-AreLoaded-push images x n h is unjudged = record {
+pub AreLoaded-push : (images : List Image) (x : Image) (n : ℕ) → AreLoaded images n → IsLoaded (image_slot x) → image_misfit x ≡ None → (x.power ≢ Absent → x.cause ≡ None) → AreLoaded (images ++ x ∷ []) (n + 1)
+AreLoaded-push images x n h is unjudged clean = record {
   number = length-append images (x ∷ []) ∙ ap (λ (k : ℕ). k + 1) h.number;
   loaded = λ d below. elim (cases_lt d n) [
     | inl before ↦ rw (at_before image_slot vacant_slot images x d (omega (arith, before, h.number))) (h.loaded d before)
@@ -86,5 +89,11 @@ AreLoaded-push images x n h is unjudged = record {
   fresh = λ d below. elim (cases_lt d n) [
     | inl before ↦ at_before image_misfit None images x d (omega (arith, before, h.number)) ∙ h.fresh d before
     | inr past ↦ at_end image_misfit None images x d (omega (arith, past, below, h.number)) ∙ unjudged
+  ];
+  clean = λ d below. elim (cases_lt d n) [
+    | inl before ↦ λ there. at_before image_cause None images x d (omega (arith, before, h.number))
+        ∙ h.clean d before (subst (λ (s : Slot). s.power ≢ Absent) (at_before image_slot vacant_slot images x d (omega (arith, before, h.number))) there)
+    | inr past ↦ λ there. at_end image_cause None images x d (omega (arith, past, below, h.number))
+        ∙ clean (subst (λ (s : Slot). s.power ≢ Absent) (at_end image_slot vacant_slot images x d (omega (arith, past, below, h.number))) there)
   ];
 }

@@ -1,10 +1,10 @@
 -- What a call on a disk leaves of what was found of its image, and of the causes that are told.
-use Rattle.std.specs.Prelude.{◌≡◌, ◌≢◌, ◌⊎◌, ℕ, Bool, true, false, List, Option, None, map, get_or, IsSome}
+use Rattle.std.specs.Prelude.{◌≡◌, ◌≢◌, ◌⊎◌, ℕ, Bool, true, false, List, Option, None, map, get_or, is_some, IsSome}
 use Rattle.std.specs.declared.io.Error.{Error}
 use Rattle.paraid_imgrack.specs.declared.image.Image.{Image}
 use Rattle.paraid_imgrack.specs.declared.tail.Tail.{Tail}
 use Rattle.paraid_imgrack.specs.declared.tail.Tail.TheVariants.{Other, Unread}
-use Rattle.paraid_rack.specs.declared.call.Power.TheVariants.{Spinning}
+use Rattle.paraid_rack.specs.declared.call.Power.TheVariants.{Spinning, Absent}
 use Rattle.paraid_imgrack.specs.Images.{image_misfit, image_slot_at, misfit_at, tail_at}
 
 -- why the first call on the disk that failed did so
@@ -15,6 +15,10 @@ image_cause i = i.cause
 abbrev pub cause_at : List Image → ℕ → Option Error
 cause_at images d = get_or (map image_cause images) d None
 
+-- If the disk of this slot is there, nothing is told to have failed.
+abbrev pub IsBlameless : List Image → ℕ → Type 0
+IsBlameless images d = (image_slot_at images d).power ≢ Absent → cause_at images d ≡ None
+
 -- what was found behind the blocks when they were last looked at, whatever the disk's power is now
 abbrev pub image_end : Image → Tail
 image_end i = i.tail
@@ -23,11 +27,19 @@ image_end i = i.tail
 abbrev pub end_at : List Image → ℕ → Tail
 end_at images d = get_or (map image_end images) d Other
 
--- If the disk of this slot spins, its image was looked at behind its blocks, or could not be and the
--- cause of that is told.
+-- whether the image is open: else no read, write or sync of it is done
+abbrev pub is_open : Image → Bool
+is_open i = is_some i.file
+
+-- whether the image of the slot of this number is open
+abbrev pub is_open_at : List Image → ℕ → Bool
+is_open_at images d = get_or (map is_open images) d false
+
+-- If the disk of this slot spins, its image was looked at behind its blocks; or it could not be, the
+-- cause of that is told, and the image is shut.
 abbrev pub IsLookedAt : List Image → ℕ → Type 0
 IsLookedAt images d = (image_slot_at images d).power ≡ Spinning
-    → (tail_at images d ≢ Unread) ⊎ IsSome (cause_at images d)
+    → (tail_at images d ≢ Unread) ⊎ (IsSome (cause_at images d) × (is_open_at images d ≡ false))
 
 -- The first cause of each disk is kept.
 abbrev pub KeepsCauses : List Image → List Image → Type 0
@@ -39,18 +51,21 @@ pub record KeepsCause (old new : Option Error) (ok : Bool) : Type 0 where
   pub same : ok ≡ true → new ≡ old
 
 -- A call on a disk tells why it failed, if none on the disk has failed before. What was found of
--- the image stays.
+-- the image stays, and one that is shut stays so.
 pub record TellsCause (old new : Image) (ok : Bool) : Type 0 where
   pub cause : KeepsCause old.cause new.cause ok
   pub why : ok ≡ false → IsSome new.cause
   pub misfit : new.misfit ≡ old.misfit
   pub tail : new.tail ≡ old.tail
+  pub shut : is_open old ≡ false → is_open new ≡ false
 
--- What was found of the images stays, and so does the first cause of each.
+-- What was found of the images stays, and so does the first cause of each. None that is shut is
+-- opened.
 pub record KeepsFound (old new : List Image) : Type 0 where
   pub causes : KeepsCauses old new
   pub misfits : map image_misfit new ≡ map image_misfit old
   pub tails : map image_end new ≡ map image_end old
+  pub shut : (d : ℕ) → is_open_at old d ≡ false → is_open_at new d ≡ false
 
 -- A call on this disk tells why it failed, if none on the disk has failed before, and tells it of
 -- no other disk. What was found of the images stays.
@@ -61,8 +76,9 @@ pub record TellsCauseAt (old new : List Image) (disk : ℕ) (ok : Bool) : Type 0
   pub why : ok ≡ false → IsSome (cause_at new disk)
 
 -- A call that looks at the image of a disk, or makes it anew, changes what was found of that image
--- alone, and no cause of another disk.
-pub record KeepsOthers (old new : List Image) (disk : ℕ) : Type 0 where
+-- alone, and no cause of another disk; and it opens or shuts no other image.
+pub record KeepsOtherImages (old new : List Image) (disk : ℕ) : Type 0 where
   pub causes : (d : ℕ) → d ≢ disk → cause_at new d ≡ cause_at old d
   pub misfits : (d : ℕ) → d ≢ disk → misfit_at new d ≡ misfit_at old d
   pub tails : (d : ℕ) → d ≢ disk → end_at new d ≡ end_at old d
+  pub open_ones : (d : ℕ) → d ≢ disk → is_open_at new d ≡ is_open_at old d

@@ -70,7 +70,7 @@ pub(crate) struct Image {
 
 impl Image {
     ghost use Rattle.std.specs.Prelude.{is_ok};
-    ghost use Rattle.paraid_imgrack.specs.Calls.{KeepsCause, TellsCause};
+    ghost use Rattle.paraid_imgrack.specs.Calls.{KeepsCause, TellsCause, is_open};
     ghost use Rattle.paraid_imgrack.specs.Images.{image_hindrance, image_label, image_misfit, image_slot, image_tail, IsLoaded, IsFailedSlot, Becomes};
 
     /// The disk as its files tell it.
@@ -83,6 +83,7 @@ impl Image {
     ) -> Result<Image, NoMemory>
         ensures loaded { IfOk result (λ image. IsLoaded (image_slot image)) }
         ensures fresh { IfOk result (λ image. image_misfit image ≡ None) }
+        ensures clean { IfOk result (λ image. image.power ≢ Absent → image.cause ≡ None) }
     {
         let names = Names::new(alloc, disk)?;
         let (power, cause) = match names.load(files) {
@@ -118,6 +119,7 @@ impl Image {
     fn absent(names: Names, hindrance: Option<Hindrance>, cause: Option<io::Error>) -> Image
         ensures loaded { IsLoaded (image_slot result) }
         ensures fresh { image_misfit result ≡ None }
+        ensures absent { result.power ≡ Absent }
     {
         Image {
             names,
@@ -143,7 +145,7 @@ impl Image {
         ensures first { IsSome self.old.cause → self.new.cause ≡ self.old.cause }
         ensures kept { result ≡ image_label self.new }
         ensures read { self.new.power ≡ Spinning
-            → (self.new.tail ≢ Unread) ⊎ IsSome self.new.cause }
+            → (self.new.tail ≢ Unread) ⊎ (IsSome self.new.cause × (is_open self.new ≡ false)) }
     {
         if self.power != Power::Spinning {
             return None;
@@ -176,6 +178,7 @@ impl Image {
         ensures first { IsSome self.old.cause → self.new.cause ≡ self.old.cause }
         ensures misfit { self.new.misfit ≡ self.old.misfit }
         ensures tail { self.new.tail ≡ self.old.tail }
+        ensures shut { is_open self.old ≡ false → is_open self.new ≡ false }
         ensures given { result ≡ true → (self.old.power ≡ Spinning) × CanHaveLabel self.old.tail }
     {
         if self.power != Power::Spinning {
@@ -234,6 +237,7 @@ impl Image {
         ensures slot { Becomes (image_slot self.old) (image_slot self.new) (image_slot self.old)
             (image_slot self.old).unsynced (is_ok result) }
         ensures cause { TellsCause self.old self.new (is_ok result) }
+        ensures opened { OnOk result (is_open self.old ≡ true) }
     {
         match read_block(&self.file, place, into) {
             Ok(()) => Ok(()),
@@ -252,6 +256,7 @@ impl Image {
         ensures slot { Becomes (image_slot self.old) (image_slot self.new)
             (record (image_slot self.old) { unsynced = true }) true (is_ok result) }
         ensures cause { TellsCause self.old self.new (is_ok result) }
+        ensures opened { OnOk result (is_open self.old ≡ true) }
     {
         self.unsynced = true;
         match write_bytes(&self.file, first, bytes) {
@@ -265,6 +270,7 @@ impl Image {
             (record (image_slot self.old) { unsynced = false })
             (image_slot self.old).unsynced (is_ok result) }
         ensures cause { TellsCause self.old self.new (is_ok result) }
+        ensures opened { OnOk result (is_open self.old ≡ true) }
     {
         match sync_blocks(&self.file) {
             Ok(()) => self.unsynced = false,
@@ -429,6 +435,7 @@ impl Image {
         ensures misfit { self.new.misfit ≡ self.old.misfit }
         ensures cause { self.new.cause ≡ self.old.cause }
         ensures tail { self.new.tail ≡ self.old.tail }
+        ensures shut { is_open self.new ≡ false }
     {
         self.names.store_failed(files);
         self.file = None;
@@ -584,7 +591,9 @@ fn label_newest(
 }
 
 // The bytes come straight into the block. After an error they are any.
-fn read_block(file: &Option<File>, place: Place, into: &mut Block) -> io::Result<()> {
+fn read_block(file: &Option<File>, place: Place, into: &mut Block) -> io::Result<()>
+    ensures { OnOk result (IsSome file.now) }
+{
     let Some(file) = file else {
         return Err(not_open());
     };
@@ -625,14 +634,18 @@ fn write_whole(file: &File, bytes: &[u8], at: u64) -> io::Result<()> {
     }
 }
 
-fn write_bytes(file: &Option<File>, first: Place, bytes: &[u8]) -> io::Result<()> {
+fn write_bytes(file: &Option<File>, first: Place, bytes: &[u8]) -> io::Result<()>
+    ensures { OnOk result (IsSome file.now) }
+{
     let Some(file) = file else {
         return Err(not_open());
     };
     write_whole(file, bytes, offset(first))
 }
 
-fn sync_blocks(file: &Option<File>) -> io::Result<()> {
+fn sync_blocks(file: &Option<File>) -> io::Result<()>
+    ensures { OnOk result (IsSome file.now) }
+{
     let Some(file) = file else {
         return Err(not_open());
     };

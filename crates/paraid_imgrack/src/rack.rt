@@ -30,6 +30,7 @@ pub struct ImageRack<F> {
 
 impl<F: Files<File = File> + Drop> ImageRack<F> {
     ghost use Rattle.std.specs.Prelude.{◌<◌, IfOk, IfNone, IfSome, None};
+    ghost use Rattle.paraid_imgrack.specs.Calls.{IsBlameless};
     ghost use Rattle.paraid_imgrack.specs.Images.{IsLoaded, FirstHindrance, hindrance_at};
     ghost use Rattle.paraid_imgrack.specs.Looks.{HasNoMisfits, IsUnhindered, IsAsOpened};
 
@@ -46,6 +47,8 @@ impl<F: Files<File = File> + Drop> ImageRack<F> {
         ensures opened { IfOk result IsAsOpened }
         ensures fresh { IfOk result HasNoMisfits }
         ensures unknown { IfOk result (λ rack. rack.identity ≡ None) }
+        ensures clean { IfOk result (λ rack. (d : ℕ) → d < slots
+            → IsBlameless rack.images.items d) }
     {
         let Ok(mut images) = Vec::with_capacity(alloc, slots as usize) else {
             return Err(NoMemory);
@@ -140,7 +143,7 @@ impl<F: Files<File = File> + Drop> Rack for ImageRack<F> {
     ghost use Rattle.paraid_rack.specs.Slots.{ChangesOneSlot};
     ghost use Rattle.paraid_rack.specs.Told.{GrowsByCall};
     ghost use Rattle.paraid_rack.specs.Trail.{Trail, now};
-    ghost use Rattle.paraid_imgrack.specs.Calls.{KeepsCause, KeepsFound, KeepsOthers, TellsCauseAt, cause_at};
+    ghost use Rattle.paraid_imgrack.specs.Calls.{KeepsCause, KeepsFound, KeepsOtherImages, TellsCauseAt, cause_at, is_open_at};
     ghost use Rattle.paraid_imgrack.specs.Images.{IsTold, image_slot_at, misfit_at, tail_at};
     ghost use Rattle.paraid_imgrack.specs.Labels.{FitsTailLate, known_array};
     ghost use Rattle.paraid_imgrack.specs.Laws.{are_slots, nothing_told};
@@ -189,6 +192,7 @@ impl<F: Files<File = File> + Drop> Rack for ImageRack<F> {
         ensures known { self.new.identity ≡ self.old.identity }
         ensures causes { TellsCauseAt self.old.images.items self.new.images.items disk
             (is_ok result) }
+        ensures opened { OnOk result (is_open_at self.old.images.items disk ≡ true) }
     {
         self.images[disk as usize].read(&self.files, place, into)
     }
@@ -206,6 +210,7 @@ impl<F: Files<File = File> + Drop> Rack for ImageRack<F> {
         ensures known { self.new.identity ≡ self.old.identity }
         ensures causes { TellsCauseAt self.old.images.items self.new.images.items disk
             (is_ok result) }
+        ensures opened { OnOk result (is_open_at self.old.images.items disk ≡ true) }
     {
         self.images[disk as usize].write(&self.files, place, block.as_slice())
     }
@@ -224,6 +229,7 @@ impl<F: Files<File = File> + Drop> Rack for ImageRack<F> {
         ensures labels { IfSome self.new.identity IsTold }
         ensures found { KeepsFound self.old.images.items self.new.images.items }
         ensures why { is_ok result ≡ false → IsSome (cause_at self.new.images.items disk) }
+        ensures opened { OnOk result (is_open_at self.old.images.items disk ≡ true) }
     {
         self.renew_labels();
         self.images[disk as usize].sync(&self.files)
@@ -261,7 +267,7 @@ impl<F: Files<File = File> + Drop> Rack for ImageRack<F> {
             → FitsTailLate i (tail_at self.new.images.items disk) disk)) }
         ensures read { OnOk result (IfSome self.old.identity
             (λ _. tail_at self.new.images.items disk ≢ Unread)) }
-        ensures others { KeepsOthers self.old.images.items self.new.images.items disk }
+        ensures images { KeepsOtherImages self.old.images.items self.new.images.items disk }
         ensures cause { KeepsCause (cause_at self.old.images.items disk)
             (cause_at self.new.images.items disk) (is_ok result) }
         ensures why { OnErr result (IsSome (misfit_at self.new.images.items disk)
@@ -288,7 +294,7 @@ impl<F: Files<File = File> + Drop> Rack for ImageRack<F> {
         ensures labelled { OnOk result (IfSome self.old.identity (λ old. IfSome self.new.identity
             (λ new. disk < old.disks → disk < 8
             → slice_index new.known disk ≡ new.generation))) }
-        ensures others { KeepsOthers self.old.images.items self.new.images.items disk }
+        ensures images { KeepsOtherImages self.old.images.items self.new.images.items disk }
         ensures mended { OnOk result ((misfit_at self.new.images.items disk ≡ None)
             × (cause_at self.new.images.items disk ≡ None)) }
         ensures why { OnErr result (IsSome (misfit_at self.new.images.items disk)
@@ -299,12 +305,12 @@ impl<F: Files<File = File> + Drop> Rack for ImageRack<F> {
 }
 
 impl<F: Files<File = File> + Drop> BulkRack for ImageRack<F> {
-    ghost use Rattle.std.specs.Prelude.{◌+◌, ◌<◌, true, None, is_ok};
+    ghost use Rattle.std.specs.Prelude.{◌+◌, ◌<◌, true, None, OnOk, is_ok};
     ghost use Rattle.paraid_rack.specs.declared.call.Power.TheVariants.{Spinning};
     ghost use Rattle.paraid_rack.specs.Slots.{ChangesOneSlot};
     ghost use Rattle.paraid_rack.specs.Told.{Ran};
     ghost use Rattle.paraid_gather.specs.Bulk.{WritesBlocks};
-    ghost use Rattle.paraid_imgrack.specs.Calls.{TellsCauseAt};
+    ghost use Rattle.paraid_imgrack.specs.Calls.{TellsCauseAt, is_open_at};
     ghost use Rattle.paraid_imgrack.specs.Images.{image_slot_at};
 
     fn write_blocks(
@@ -328,6 +334,7 @@ impl<F: Files<File = File> + Drop> BulkRack for ImageRack<F> {
         ensures known { self.new.identity ≡ self.old.identity }
         ensures causes { TellsCauseAt self.old.images.items self.new.images.items disk
             (is_ok result) }
+        ensures opened { OnOk result (is_open_at self.old.images.items disk ≡ true) }
     {
         self.images[disk as usize].write(&self.files, first, blocks.as_flattened())
     }

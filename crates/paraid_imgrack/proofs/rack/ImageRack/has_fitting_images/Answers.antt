@@ -19,7 +19,7 @@ returns-clause-drawn g c _ none = IsDrawn-by c.read_labels-labels.result c.read_
     c.read_labels-labels.ensures.labels c.fits.ensures.tails c.fits.ensures.look.slots c.fits.ensures.known c.in-Some.ensures.drawn none
 
 pub returns-clause-read : goal.returns-clause-read
-returns-clause-read g c d = looked_at-same c.read_labels-labels.new.self.images.items c.fits.new.self.images.items c.fits.ensures.look.slots c.fits.ensures.tails c.fits.ensures.causes d (c.read_labels-labels.ensures.read d)
+returns-clause-read g c d = looked_at-same c.read_labels-labels.new.self.images.items c.fits.new.self.images.items c.fits.ensures.look.slots c.fits.ensures.tails c.fits.ensures.causes c.fits.ensures.opened d (c.read_labels-labels.ensures.read d)
 
 pub returns-clause-causes : goal.returns-clause-causes
 returns-clause-causes g c = KeepsCauses-same c.args.self.now.images.items c.read_labels-labels.new.self.images.items c.fits.new.self.images.items c.read_labels-labels.ensures.causes c.fits.ensures.causes

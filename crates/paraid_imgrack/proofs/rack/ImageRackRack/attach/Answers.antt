@@ -3,7 +3,7 @@ use Rattle.paraid_rack.specs.declared.call.Power.TheVariants.{Spinning}
 use Rattle.paraid_rack.specs.Slots.{Slot}
 use Rattle.std.proofs.lemmas.List.{length-set}
 use Rattle.paraid_imgrack.specs.Laws.{nothing_told}
-use Rattle.paraid_imgrack.proofs.CallsLemmas.{KeepsOthers-set, mended_at, why_at}
+use Rattle.paraid_imgrack.proofs.CallsLemmas.{KeepsOtherImages-set, mended_at, why_at}
 use Rattle.paraid_imgrack.proofs.ImagesLemmas.{touched_at}
 use Rattle.paraid_imgrack.proofs.rack.ImageRackRack.attach.Goals as goal
 
@@ -17,7 +17,7 @@ returns g c = record {
   newer = c.attach.ensures.newer;
   again = c.attach.ensures.again;
   labelled = c.attach.ensures.labelled;
-  others = KeepsOthers-set c.args.self.now.images.items c.args.disk c.index_mut.result.now _ c.requires.exists c.index_mut.ensures.value;
+  images = KeepsOtherImages-set c.args.self.now.images.items c.args.disk c.index_mut.result.now _ c.requires.exists c.index_mut.ensures.value;
   mended = mended_at c.args.self.now.images.items c.args.disk c.index_mut.result.now _ c.requires.exists c.index_mut.ensures.value _ c.attach.ensures.mended;
   why = why_at c.args.self.now.images.items c.args.disk c.index_mut.result.now _ c.requires.exists c.index_mut.ensures.value _ c.attach.ensures.why;
 }
