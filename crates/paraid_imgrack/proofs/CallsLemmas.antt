@@ -8,7 +8,7 @@ use Rattle.std.specs.declared.io.Error.{Error}
 use Rattle.paraid_imgrack.specs.declared.image.Image.{Image}
 use Rattle.paraid_imgrack.specs.declared.tail.Tail.{Tail}
 use Rattle.paraid_imgrack.specs.declared.tail.Tail.TheVariants.{Other, Unread}
-use Rattle.paraid_imgrack.specs.Calls.{IsLookedAt, KeepsCause, KeepsCauses, KeepsFound, KeepsOtherImages, TellsCause, TellsCauseAt, cause_at, end_at, image_cause, image_end, is_open, is_open_at}
+use Rattle.paraid_imgrack.specs.Calls.{IsLookedAt, KeepsCause, KeepsCauses, KeepsFound, KeepsOtherImages, TellsCause, TellsCauseAt, cause_at, end_at, image_cause, image_end, has_file, has_file_at}
 use Rattle.paraid_rack.specs.declared.call.Power.TheVariants.{Spinning}
 use Rattle.paraid_rack.specs.Slots.{Slot, vacant_slot}
 use Rattle.paraid_imgrack.specs.declared.identity.Identity.{Identity}
@@ -58,24 +58,24 @@ module _ (images : List Image) (d : ℕ) (y x : Image) (within : d < length imag
   end_at-set_other : (e : ℕ) → e ≢ d → end_at (set images d x) e ≡ end_at images e
   end_at-set_other e not = ap (λ (l : List Tail). get_or l e Other) (map-set image_end images d x) ∙ get_or-set_other (map image_end images) d e (image_end x) Other not
 
-  is_open_at-get_or : is_open_at images d ≡ is_open y
-  is_open_at-get_or = get_or-map is_open images d y false within ∙ ap is_open (sym is)
+  has_file_at-get_or : has_file_at images d ≡ has_file y
+  has_file_at-get_or = get_or-map has_file images d y false within ∙ ap has_file (sym is)
 
-  is_open_at-set_same : is_open_at (set images d x) d ≡ is_open x
-  is_open_at-set_same = ap (λ (l : List Bool). get_or l d false) (map-set is_open images d x) ∙ get_or-set_same (map is_open images) d (is_open x) false (rw (length-map images is_open) within)
+  has_file_at-set_same : has_file_at (set images d x) d ≡ has_file x
+  has_file_at-set_same = ap (λ (l : List Bool). get_or l d false) (map-set has_file images d x) ∙ get_or-set_same (map has_file images) d (has_file x) false (rw (length-map images has_file) within)
 
-  is_open_at-set_other : (e : ℕ) → e ≢ d → is_open_at (set images d x) e ≡ is_open_at images e
-  is_open_at-set_other e not = ap (λ (l : List Bool). get_or l e false) (map-set is_open images d x) ∙ get_or-set_other (map is_open images) d e (is_open x) false not
+  has_file_at-set_other : (e : ℕ) → e ≢ d → has_file_at (set images d x) e ≡ has_file_at images e
+  has_file_at-set_other e not = ap (λ (l : List Bool). get_or l e false) (map-set has_file images d x) ∙ get_or-set_other (map has_file images) d e (has_file x) false not
 
-  shut-set : (is_open y ≡ false → is_open x ≡ false) → (e : ℕ) → is_open_at images e ≡ false → is_open_at (set images d x) e ≡ false
+  shut-set : (has_file y ≡ false → has_file x ≡ false) → (e : ℕ) → has_file_at images e ≡ false → has_file_at (set images d x) e ≡ false
   shut-set shut e was = elim (cases_eq e d) [
-    | inl here ↦ subst (λ (k : ℕ). is_open_at (set images d x) k ≡ false) (sym here)
-        (is_open_at-set_same ∙ shut (sym is_open_at-get_or ∙ (ap (λ (k : ℕ). is_open_at images k) (sym here) ∙ was)))
-    | inr not ↦ is_open_at-set_other e not ∙ was
+    | inl here ↦ subst (λ (k : ℕ). has_file_at (set images d x) k ≡ false) (sym here)
+        (has_file_at-set_same ∙ shut (sym has_file_at-get_or ∙ (ap (λ (k : ℕ). has_file_at images k) (sym here) ∙ was)))
+    | inr not ↦ has_file_at-set_other e not ∙ was
   ]
 
-  pub opened_at : {A E : Type 0} (r : Result A E) → OnOk r (is_open y ≡ true) → OnOk r (is_open_at images d ≡ true)
-  opened_at r = on_ok r (λ ok opened. is_open_at-get_or ∙ opened)
+  pub opened_at : {A E : Type 0} (r : Result A E) → OnOk r (has_file y ≡ true) → OnOk r (has_file_at images d ≡ true)
+  opened_at r = on_ok r (λ ok opened. has_file_at-get_or ∙ opened)
 
   cause_kept : x.cause ≡ y.cause → cause_at (set images d x) d ≡ cause_at images d
   cause_kept same = cause_at-set_same ∙ (same ∙ sym cause_at-get_or)
@@ -87,7 +87,7 @@ module _ (images : List Image) (d : ℕ) (y x : Image) (within : d < length imag
     | inr not ↦ cause_at-set_other e not
   ]
 
-  pub KeepsFound-set : (IsSome y.cause → x.cause ≡ y.cause) → x.misfit ≡ y.misfit → x.tail ≡ y.tail → (is_open y ≡ false → is_open x ≡ false) → KeepsFound images (set images d x)
+  pub KeepsFound-set : (IsSome y.cause → x.cause ≡ y.cause) → x.misfit ≡ y.misfit → x.tail ≡ y.tail → (has_file y ≡ false → has_file x ≡ false) → KeepsFound images (set images d x)
   KeepsFound-set first misfit tail shut = record {
     causes = KeepsCauses-set first;
     misfits = map-set_same image_misfit images d x y (misfit ∙ ap image_misfit is);
@@ -124,18 +124,18 @@ module _ (images : List Image) (d : ℕ) (y x : Image) (within : d < length imag
     | inr cause ↦ inr (some_cause_at cause)
   ])
 
-  pub looked_at-set_same : (x.power ≡ Spinning → (x.tail ≢ Unread) ⊎ (IsSome x.cause × (is_open x ≡ false))) → IsLookedAt (set images d x) d
+  pub looked_at-set_same : (x.power ≡ Spinning → (x.tail ≢ Unread) ⊎ (IsSome x.cause × (has_file x ≡ false))) → IsLookedAt (set images d x) d
   looked_at-set_same read spins =
       let power : x.power ≡ Spinning = ap (λ (s : Slot). s.power) (sym (image_slot_at-set_same images d x within)) ∙ spins in
       elim (read power) [
         | inl tail ↦ inl (subst (λ (t : Tail). t ≢ Unread) (sym (tail-set_same images d x within ∙ ap (λ p. read_tail_of p x.tail) power)) tail)
-        | inr shut ↦ inr (some_cause_at shut.0, is_open_at-set_same ∙ shut.1)
+        | inr shut ↦ inr (some_cause_at shut.0, has_file_at-set_same ∙ shut.1)
       ]
 
   pub looked_at-set_other : (e : ℕ) → e ≢ d → IsLookedAt images e → IsLookedAt (set images d x) e
   looked_at-set_other e not read spins = elim (read (ap (λ (s : Slot). s.power) (sym (image_slot_at-set_other images d x within e not)) ∙ spins)) [
     | inl tail ↦ inl (subst (λ (t : Tail). t ≢ Unread) (sym (tail-set_other images d x e not)) tail)
-    | inr shut ↦ inr (subst (λ (o : Option Error). IsSome o) (sym (cause_at-set_other e not)) shut.0, is_open_at-set_other e not ∙ shut.1)
+    | inr shut ↦ inr (subst (λ (o : Option Error). IsSome o) (sym (cause_at-set_other e not)) shut.0, has_file_at-set_other e not ∙ shut.1)
   ]
 
   -- what is said of the tail of an image that spins from now on
@@ -155,7 +155,7 @@ module _ (images : List Image) (d : ℕ) (y x : Image) (within : d < length imag
     causes = cause_at-set_other;
     misfits = misfit-set_other images d x;
     tails = end_at-set_other;
-    open_ones = is_open_at-set_other;
+    files = has_file_at-set_other;
   }
 
 set_past : {A : Type 0} (l : List A) (d : ℕ) (x : A) → length l ≤ d → set l d x ≡ l
@@ -165,7 +165,7 @@ set_past (y ∷ l) (suc d) x past = ap (λ (k : List _). y ∷ k) (set_past l d 
 
 -- an image is put into its place, if there is one, with what was found of it
 pub KeepsFound-put : (images : List Image) (d : ℕ) (y x : Image) → y ≡ get_or images d y → (IsSome y.cause → x.cause ≡ y.cause) → x.misfit ≡ y.misfit → x.tail ≡ y.tail
-    → (is_open y ≡ false → is_open x ≡ false) → KeepsFound images (set images d x)
+    → (has_file y ≡ false → has_file x ≡ false) → KeepsFound images (set images d x)
 KeepsFound-put images d y x is first misfit tail shut = elim (cases_lt d (length images)) [
   | inl within ↦ KeepsFound-set images d y x within is first misfit tail shut
   | inr past ↦ subst (λ (l : List Image). KeepsFound images l) (sym (set_past images d x (omega (arith, past)))) (KeepsFound-same images)
@@ -179,20 +179,20 @@ module _ (before images : List Image) (d : ℕ) (y x : Image) (ok : Bool) (same 
   pub found_after : KeepsFound before images → KeepsFound before (set images d x)
   found_after found = KeepsFound-then before images (set images d x) found (KeepsFound-set images d y x below is call.cause.first call.misfit call.tail call.shut)
 
-  opened_before : KeepsFound before images → is_open_at images d ≡ true → is_open_at before d ≡ true
-  opened_before found now = elim (cases_Bool (is_open_at before d)) [
+  opened_before : KeepsFound before images → has_file_at images d ≡ true → has_file_at before d ≡ true
+  opened_before found now = elim (cases_Bool (has_file_at before d)) [
     | inl was ↦ was
     | inr was ↦ absurd (false≢true (sym (found.shut d was) ∙ now))
   ]
 
-  pub opened_after : KeepsFound before images → {A E : Type 0} (r : Result A E) → OnOk r (is_open y ≡ true) → OnOk r (is_open_at before d ≡ true)
-  opened_after found r = on_ok r (λ done opened. opened_before found (is_open_at-get_or images d y x below is ∙ opened))
+  pub opened_after : KeepsFound before images → {A E : Type 0} (r : Result A E) → OnOk r (has_file y ≡ true) → OnOk r (has_file_at before d ≡ true)
+  opened_after found r = on_ok r (λ done opened. opened_before found (has_file_at-get_or images d y x below is ∙ opened))
 
   pub why_after : ok ≡ false → IsSome (cause_at (set images d x) d)
   why_after failed = some_cause_at images d y x below is (call.why failed)
 
 -- a look at labels whose slots, tails and causes are as before
-pub looked_at-same : (old new : List Image) → map image_slot new ≡ map image_slot old → map image_tail new ≡ map image_tail old → map image_cause new ≡ map image_cause old → map is_open new ≡ map is_open old
+pub looked_at-same : (old new : List Image) → map image_slot new ≡ map image_slot old → map image_tail new ≡ map image_tail old → map image_cause new ≡ map image_cause old → map has_file new ≡ map has_file old
     → (d : ℕ) → IsLookedAt old d → IsLookedAt new d
 looked_at-same old new slots tails causes opened d read spins = elim (read (ap (λ (l : List Slot). (get_or l d vacant_slot).power) (sym slots) ∙ spins)) [
   | inl tail ↦ inl (subst (λ (l : List Tail). get_or l d Other ≢ Unread) (sym tails) tail)

@@ -27,19 +27,19 @@ image_end i = i.tail
 abbrev pub end_at : List Image → ℕ → Tail
 end_at images d = get_or (map image_end images) d Other
 
--- whether the image is open: else no read, write or sync of it is done
-abbrev pub is_open : Image → Bool
-is_open i = is_some i.file
+-- whether the file of the image is open: else no read, write or sync of it is done
+abbrev pub has_file : Image → Bool
+has_file i = is_some i.file
 
--- whether the image of the slot of this number is open
-abbrev pub is_open_at : List Image → ℕ → Bool
-is_open_at images d = get_or (map is_open images) d false
+-- whether the file of the image in the slot of this number is open
+abbrev pub has_file_at : List Image → ℕ → Bool
+has_file_at images d = get_or (map has_file images) d false
 
 -- If the disk of this slot spins, its image was looked at behind its blocks; or it could not be, the
 -- cause of that is told, and the image is shut.
 abbrev pub IsLookedAt : List Image → ℕ → Type 0
 IsLookedAt images d = (image_slot_at images d).power ≡ Spinning
-    → (tail_at images d ≢ Unread) ⊎ (IsSome (cause_at images d) × (is_open_at images d ≡ false))
+    → (tail_at images d ≢ Unread) ⊎ (IsSome (cause_at images d) × (has_file_at images d ≡ false))
 
 -- The first cause of each disk is kept.
 abbrev pub KeepsCauses : List Image → List Image → Type 0
@@ -57,7 +57,7 @@ pub record TellsCause (old new : Image) (ok : Bool) : Type 0 where
   pub why : ok ≡ false → IsSome new.cause
   pub misfit : new.misfit ≡ old.misfit
   pub tail : new.tail ≡ old.tail
-  pub shut : is_open old ≡ false → is_open new ≡ false
+  pub shut : has_file old ≡ false → has_file new ≡ false
 
 -- What was found of the images stays, and so does the first cause of each. None that is shut is
 -- opened.
@@ -65,7 +65,7 @@ pub record KeepsFound (old new : List Image) : Type 0 where
   pub causes : KeepsCauses old new
   pub misfits : map image_misfit new ≡ map image_misfit old
   pub tails : map image_end new ≡ map image_end old
-  pub shut : (d : ℕ) → is_open_at old d ≡ false → is_open_at new d ≡ false
+  pub shut : (d : ℕ) → has_file_at old d ≡ false → has_file_at new d ≡ false
 
 -- A call on this disk tells why it failed, if none on the disk has failed before, and tells it of
 -- no other disk. What was found of the images stays.
@@ -81,4 +81,4 @@ pub record KeepsOtherImages (old new : List Image) (disk : ℕ) : Type 0 where
   pub causes : (d : ℕ) → d ≢ disk → cause_at new d ≡ cause_at old d
   pub misfits : (d : ℕ) → d ≢ disk → misfit_at new d ≡ misfit_at old d
   pub tails : (d : ℕ) → d ≢ disk → end_at new d ≡ end_at old d
-  pub open_ones : (d : ℕ) → d ≢ disk → is_open_at new d ≡ is_open_at old d
+  pub files : (d : ℕ) → d ≢ disk → has_file_at new d ≡ has_file_at old d

@@ -70,7 +70,7 @@ pub(crate) struct Image {
 
 impl Image {
     ghost use Rattle.std.specs.Prelude.{is_ok};
-    ghost use Rattle.paraid_imgrack.specs.Calls.{KeepsCause, TellsCause, is_open};
+    ghost use Rattle.paraid_imgrack.specs.Calls.{KeepsCause, TellsCause, has_file};
     ghost use Rattle.paraid_imgrack.specs.Images.{image_hindrance, image_label, image_misfit, image_slot, image_tail, IsLoaded, IsFailedSlot, Becomes};
 
     /// The disk as its files tell it.
@@ -145,7 +145,7 @@ impl Image {
         ensures first { IsSome self.old.cause → self.new.cause ≡ self.old.cause }
         ensures kept { result ≡ image_label self.new }
         ensures read { self.new.power ≡ Spinning
-            → (self.new.tail ≢ Unread) ⊎ (IsSome self.new.cause × (is_open self.new ≡ false)) }
+            → (self.new.tail ≢ Unread) ⊎ (IsSome self.new.cause × (has_file self.new ≡ false)) }
     {
         if self.power != Power::Spinning {
             return None;
@@ -178,7 +178,7 @@ impl Image {
         ensures first { IsSome self.old.cause → self.new.cause ≡ self.old.cause }
         ensures misfit { self.new.misfit ≡ self.old.misfit }
         ensures tail { self.new.tail ≡ self.old.tail }
-        ensures shut { is_open self.old ≡ false → is_open self.new ≡ false }
+        ensures shut { has_file self.old ≡ false → has_file self.new ≡ false }
         ensures given { result ≡ true → (self.old.power ≡ Spinning) × CanHaveLabel self.old.tail }
     {
         if self.power != Power::Spinning {
@@ -237,7 +237,7 @@ impl Image {
         ensures slot { Becomes (image_slot self.old) (image_slot self.new) (image_slot self.old)
             (image_slot self.old).unsynced (is_ok result) }
         ensures cause { TellsCause self.old self.new (is_ok result) }
-        ensures opened { OnOk result (is_open self.old ≡ true) }
+        ensures opened { OnOk result (has_file self.old ≡ true) }
     {
         match read_block(&self.file, place, into) {
             Ok(()) => Ok(()),
@@ -256,7 +256,7 @@ impl Image {
         ensures slot { Becomes (image_slot self.old) (image_slot self.new)
             (record (image_slot self.old) { unsynced = true }) true (is_ok result) }
         ensures cause { TellsCause self.old self.new (is_ok result) }
-        ensures opened { OnOk result (is_open self.old ≡ true) }
+        ensures opened { OnOk result (has_file self.old ≡ true) }
     {
         self.unsynced = true;
         match write_bytes(&self.file, first, bytes) {
@@ -270,7 +270,7 @@ impl Image {
             (record (image_slot self.old) { unsynced = false })
             (image_slot self.old).unsynced (is_ok result) }
         ensures cause { TellsCause self.old self.new (is_ok result) }
-        ensures opened { OnOk result (is_open self.old ≡ true) }
+        ensures opened { OnOk result (has_file self.old ≡ true) }
     {
         match sync_blocks(&self.file) {
             Ok(()) => self.unsynced = false,
@@ -435,7 +435,7 @@ impl Image {
         ensures misfit { self.new.misfit ≡ self.old.misfit }
         ensures cause { self.new.cause ≡ self.old.cause }
         ensures tail { self.new.tail ≡ self.old.tail }
-        ensures shut { is_open self.new ≡ false }
+        ensures shut { has_file self.new ≡ false }
     {
         self.names.store_failed(files);
         self.file = None;

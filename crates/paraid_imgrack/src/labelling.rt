@@ -1,7 +1,7 @@
 //! The labels of all images: they are read before the first call, and each load gives them a new
 //! generation, and so does each disk that is attached.
 ghost use Rattle.std.specs.Prelude.{◌≡◌, ◌≢◌, ◌<◌, ℕ, map, true, false, length, None, Some, IfSome, IsSome, IsSomeAnd};
-ghost use Rattle.paraid_imgrack.specs.Calls.{IsLookedAt, KeepsCauses, KeepsFound, cause_at, image_cause, is_open};
+ghost use Rattle.paraid_imgrack.specs.Calls.{IsLookedAt, KeepsCauses, KeepsFound, cause_at, image_cause, has_file};
 ghost use Rattle.paraid_imgrack.specs.Images.{AreTrueMisfits, Fit, image_misfit, image_slot, image_slot_at, image_tail, label_at, misfit_at, tail_at, IsDrawn, IsLook, IsMissed, IsTold};
 ghost use Rattle.paraid_imgrack.specs.Labels.{AreUnnamed, KeepsKnown, Names, SuitsBeside, known_array, label_in};
 ghost use Rattle.paraid_imgrack.specs.Looks.{HasNoMisfits, HasTrueMisfits, IsFitting};
@@ -340,7 +340,7 @@ impl<F: Files<File = File> + Drop> ImageRack<F> {
             ≡ map image_tail self.old.images.items }
         ensures causes { map image_cause self.new.images.items
             ≡ map image_cause self.old.images.items }
-        ensures opened { map is_open self.new.images.items ≡ map is_open self.old.images.items }
+        ensures opened { map has_file self.new.images.items ≡ map has_file self.old.images.items }
         ensures known { self.new.identity ≡ self.old.identity }
         ensures fits { result ≡ true
             → Fit (label_in labels.now) self.new.images.items identity.now }
@@ -365,7 +365,7 @@ impl<F: Files<File = File> + Drop> ImageRack<F> {
             ≡ map image_tail self.old.images.items }
         ensures causes { map image_cause self.new.images.items
             ≡ map image_cause self.old.images.items }
-        ensures opened { map is_open self.new.images.items ≡ map is_open self.old.images.items }
+        ensures opened { map has_file self.new.images.items ≡ map has_file self.old.images.items }
         ensures known { self.new.identity ≡ self.old.identity }
         ensures fits { result ≡ true → disk < identity.now.disks
             → SuitsBeside identity.now (label_in labels.now)

@@ -143,7 +143,7 @@ impl<F: Files<File = File> + Drop> Rack for ImageRack<F> {
     ghost use Rattle.paraid_rack.specs.Slots.{ChangesOneSlot};
     ghost use Rattle.paraid_rack.specs.Told.{GrowsByCall};
     ghost use Rattle.paraid_rack.specs.Trail.{Trail, now};
-    ghost use Rattle.paraid_imgrack.specs.Calls.{KeepsCause, KeepsFound, KeepsOtherImages, TellsCauseAt, cause_at, is_open_at};
+    ghost use Rattle.paraid_imgrack.specs.Calls.{KeepsCause, KeepsFound, KeepsOtherImages, TellsCauseAt, cause_at, has_file_at};
     ghost use Rattle.paraid_imgrack.specs.Images.{IsTold, image_slot_at, misfit_at, tail_at};
     ghost use Rattle.paraid_imgrack.specs.Labels.{FitsTailLate, known_array};
     ghost use Rattle.paraid_imgrack.specs.Laws.{are_slots, nothing_told};
@@ -192,7 +192,7 @@ impl<F: Files<File = File> + Drop> Rack for ImageRack<F> {
         ensures known { self.new.identity ≡ self.old.identity }
         ensures causes { TellsCauseAt self.old.images.items self.new.images.items disk
             (is_ok result) }
-        ensures opened { OnOk result (is_open_at self.old.images.items disk ≡ true) }
+        ensures opened { OnOk result (has_file_at self.old.images.items disk ≡ true) }
     {
         self.images[disk as usize].read(&self.files, place, into)
     }
@@ -210,7 +210,7 @@ impl<F: Files<File = File> + Drop> Rack for ImageRack<F> {
         ensures known { self.new.identity ≡ self.old.identity }
         ensures causes { TellsCauseAt self.old.images.items self.new.images.items disk
             (is_ok result) }
-        ensures opened { OnOk result (is_open_at self.old.images.items disk ≡ true) }
+        ensures opened { OnOk result (has_file_at self.old.images.items disk ≡ true) }
     {
         self.images[disk as usize].write(&self.files, place, block.as_slice())
     }
@@ -229,7 +229,7 @@ impl<F: Files<File = File> + Drop> Rack for ImageRack<F> {
         ensures labels { IfSome self.new.identity IsTold }
         ensures found { KeepsFound self.old.images.items self.new.images.items }
         ensures why { is_ok result ≡ false → IsSome (cause_at self.new.images.items disk) }
-        ensures opened { OnOk result (is_open_at self.old.images.items disk ≡ true) }
+        ensures opened { OnOk result (has_file_at self.old.images.items disk ≡ true) }
     {
         self.renew_labels();
         self.images[disk as usize].sync(&self.files)
@@ -310,7 +310,7 @@ impl<F: Files<File = File> + Drop> BulkRack for ImageRack<F> {
     ghost use Rattle.paraid_rack.specs.Slots.{ChangesOneSlot};
     ghost use Rattle.paraid_rack.specs.Told.{Ran};
     ghost use Rattle.paraid_gather.specs.Bulk.{WritesBlocks};
-    ghost use Rattle.paraid_imgrack.specs.Calls.{TellsCauseAt, is_open_at};
+    ghost use Rattle.paraid_imgrack.specs.Calls.{TellsCauseAt, has_file_at};
     ghost use Rattle.paraid_imgrack.specs.Images.{image_slot_at};
 
     fn write_blocks(
@@ -334,7 +334,7 @@ impl<F: Files<File = File> + Drop> BulkRack for ImageRack<F> {
         ensures known { self.new.identity ≡ self.old.identity }
         ensures causes { TellsCauseAt self.old.images.items self.new.images.items disk
             (is_ok result) }
-        ensures opened { OnOk result (is_open_at self.old.images.items disk ≡ true) }
+        ensures opened { OnOk result (has_file_at self.old.images.items disk ≡ true) }
     {
         self.images[disk as usize].write(&self.files, first, blocks.as_flattened())
     }

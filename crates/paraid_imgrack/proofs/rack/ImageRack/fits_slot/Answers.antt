@@ -1,6 +1,6 @@
 use Rattle.std.proofs.Common.{ap, rules}
 use Rattle.std.proofs.Math.Seq.{map-set_same}
-use Rattle.paraid_imgrack.specs.Calls.{image_cause, is_open}
+use Rattle.paraid_imgrack.specs.Calls.{image_cause, has_file}
 use Rattle.paraid_imgrack.specs.Images.{image_hindrance, image_slot, image_tail}
 use Rattle.paraid_imgrack.specs.Labels.{label_in}
 use Rattle.paraid_imgrack.proofs.LooksLemmas.{misfit-set_other, misfit_here}
@@ -19,7 +19,7 @@ pub returns-in-Some-clause-causes : goal.returns-in-Some-clause-causes
 returns-in-Some-clause-causes g c = map-set_same image_cause _ _ _ c.index_mut.result.now (ap image_cause c.index_mut.ensures.value)
 
 pub returns-in-Some-clause-opened : goal.returns-in-Some-clause-opened
-returns-in-Some-clause-opened g c = map-set_same is_open _ _ _ c.index_mut.result.now (ap is_open c.index_mut.ensures.value)
+returns-in-Some-clause-opened g c = map-set_same has_file _ _ _ c.index_mut.result.now (ap has_file c.index_mut.ensures.value)
 
 pub returns-in-Some-clause-misfit : goal.returns-in-Some-clause-misfit
 returns-in-Some-clause-misfit g c _ = misfit_here (label_in c.args.labels.now) c.args.self.now.images.items c.args.disk c.index.result.now _ c.tail.result c.args.identity.now c.in-Some.misfit
