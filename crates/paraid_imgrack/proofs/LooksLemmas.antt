@@ -11,7 +11,7 @@ use Rattle.paraid_imgrack.specs.declared.identity.Misfit.{Misfit}
 use Rattle.paraid_imgrack.specs.declared.identity.Misfit.TheVariants.{Moved, Foreign, Old, New, Bare}
 use Rattle.paraid_imgrack.specs.declared.image.Image.{Image}
 use Rattle.paraid_imgrack.specs.Images.{AreTrueMisfits, Fit, IsDrawn, IsLook, IsMissed, image_label, image_misfit, image_slot, image_slot_at, image_tail, label_at, misfit_at, tail_at}
-use Rattle.paraid_imgrack.specs.Labels.{AreSeen, AreUnnamed, IsDeciding, IsKnownBy, IsLearned, IsNamed, IsNoLess, IsOfSlot, IsSeen, IsTakenOver, KnowsNone, Names, IsAmong, IsApart, Knows, SuitsBeside, SuitsOthers, known_array, label_in, label_of}
+use Rattle.paraid_imgrack.specs.Labels.{AreSeen, AreUnnamed, IsDeciding, IsKnownBy, IsLearned, IsNamed, IsNoLess, IsOfSlot, IsLabelSeen, IsTakenOver, KnowsNone, Names, IsAmong, IsApart, Knows, SuitsBeside, SuitsOthers, known_array, label_in, label_of}
 use Rattle.paraid_imgrack.specs.declared.label.Label.{Label}
 use Rattle.paraid_imgrack.proofs.NamedLemmas.{deciding_by}
 use Rattle.paraid_imgrack.specs.declared.tail.Tail.{Tail}
@@ -235,7 +235,7 @@ learned_by : (labels : ℕ → Option Label) (at : ℕ → Option Label) (i : Id
 learned_by labels at i is so d below = subst (λ (o : Option Label). IfSome o (λ l. d < i.disks → l.disk ≡ d → l.array ≡ i.array → IsTakenOver i l)) (is d below) (so d below)
 
 seen_by : (labels : ℕ → Option Label) (at : ℕ → Option Label) (i : Identity) → ((d : ℕ) → d < 8 → labels d ≡ at d) → AreSeen labels i → AreSeen at i
-seen_by labels at i is so d below = subst (λ (o : Option Label). IsSeen i o d) (is d below) (so d below)
+seen_by labels at i is so d below = subst (λ (o : Option Label). IsLabelSeen i o d) (is d below) (so d below)
 
 known_by : (labels : ℕ → Option Label) (at : ℕ → Option Label) (i : Identity) → ((d : ℕ) → d < 8 → labels d ≡ at d) → IsKnownBy labels i → IsKnownBy at i
 known_by labels at i is so = record {
@@ -256,7 +256,7 @@ pub record LearnsBelow (old now : Identity) (l : Label) (slot n : ℕ) : Type 0 
 -- Of the first slots it is kept how new their labels were as they were read, and of the others
 -- nothing yet.
 pub record SeenBelow (labels : ℕ → Option Label) (i : Identity) (n : ℕ) : Type 0 where
-  pub done : (d : ℕ) → d < n → IsSeen i (labels d) d
+  pub done : (d : ℕ) → d < n → IsLabelSeen i (labels d) d
   pub left : (d : ℕ) → n ≤ d → slice_index i.seen d ≡ 0
 
 pub SeenBelow-none : (labels : ℕ → Option Label) (i : Identity) → KnowsNone i → SeenBelow labels i 0
@@ -269,7 +269,7 @@ of_slot_same old new l d same of = record {
   array = of.array ∙ sym (ap (λ (o : Option (List ℕ × ℕ)). (shown o).0) same);
 }
 
-seen_kept : (o : Option Label) (old new : Identity) (d : ℕ) → known_array (Some new) ≡ known_array (Some old) → slice_index new.seen d ≡ slice_index old.seen d → IsSeen old o d → IsSeen new o d
+seen_kept : (o : Option Label) (old new : Identity) (d : ℕ) → known_array (Some new) ≡ known_array (Some old) → slice_index new.seen d ≡ slice_index old.seen d → IsLabelSeen old o d → IsLabelSeen new o d
 seen_kept None old new d same kept so = record { here = tt; none = λ _. kept ∙ so.none tt }
 seen_kept (Some l) old new d same kept so = record {
   here = λ of. kept ∙ so.here (of_slot_same new old l d (sym same) of);
@@ -277,11 +277,11 @@ seen_kept (Some l) old new d same kept so = record {
 }
 
 pub SeenBelow-next : (labels : ℕ → Option Label) (old new : Identity) (n : ℕ) → known_array (Some new) ≡ known_array (Some old)
-    → ((e : ℕ) → e ≢ n → slice_index new.seen e ≡ slice_index old.seen e) → (slice_index old.seen n ≡ 0 → IsSeen new (labels n) n) → SeenBelow labels old n → SeenBelow labels new (n + 1)
+    → ((e : ℕ) → e ≢ n → slice_index new.seen e ≡ slice_index old.seen e) → (slice_index old.seen n ≡ 0 → IsLabelSeen new (labels n) n) → SeenBelow labels old n → SeenBelow labels new (n + 1)
 SeenBelow-next labels old new n same others at so = record {
   done = λ d below. elim (cases_lt d n) [
     | inl before ↦ seen_kept (labels d) old new d same (others d (omega (arith, before))) (so.done d before)
-    | inr past ↦ let is : d ≡ n = omega (arith, below, past) in subst (λ (k : ℕ). IsSeen new (labels k) k) (sym is) (at (so.left n (omega arith)))
+    | inr past ↦ let is : d ≡ n = omega (arith, below, past) in subst (λ (k : ℕ). IsLabelSeen new (labels k) k) (sym is) (at (so.left n (omega arith)))
   ];
   left = λ d past. others d (omega (arith, past)) ∙ so.left d (omega (arith, past));
 }

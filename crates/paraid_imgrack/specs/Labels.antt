@@ -270,13 +270,13 @@ pub record IsOfSlot (i : Identity) (l : Label) (slot : ℕ) : Type 0 where
 
 -- The generation of the label of this slot is kept, where there is one of the array and of the slot;
 -- else 0.
-pub record IsSeen (i : Identity) (label : Option Label) (slot : ℕ) : Type 0 where
+pub record IsLabelSeen (i : Identity) (label : Option Label) (slot : ℕ) : Type 0 where
   pub here : IfSome label (λ l. IsOfSlot i l slot → slice_index i.seen slot ≡ l.generation)
   pub none : IfSome label (λ l. IsOfSlot i l slot → ⊥) → slice_index i.seen slot ≡ 0
 
 -- of each slot it is kept how new its label was as it was read
 abbrev pub AreSeen : (ℕ → Option Label) → Identity → Type 0
-AreSeen labels i = (d : ℕ) → d < 8 → IsSeen i (labels d) d
+AreSeen labels i = (d : ℕ) → d < 8 → IsLabelSeen i (labels d) d
 
 -- no image is known, and none was seen
 pub record KnowsNone (i : Identity) : Type 0 where

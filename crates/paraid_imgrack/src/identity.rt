@@ -1,7 +1,7 @@
 //! Which array the labels of some images name, and which images do not belong into their slots.
 ghost use Rattle.std.specs.Prelude.{◌≡◌, ◌≢◌, ◌<◌, ◌≤◌, ◌↔◌, ℕ, true, false, slice_index, Some, IfSome, IfNone, IsSomeAnd, IsTrue};
 ghost use Rattle.paraid_base.specs.Told.{HasRisen};
-ghost use Rattle.paraid_imgrack.specs.Labels.{AreSeen, AreUnnamed, FitsSlot, IsBehind, IsCommoner, IsDeciding, IsFirst, IsLabelOf, IsLearned, IsNamed, IsNoLess, IsAmong, IsApart, IsOfAnotherTime, IsOfSlot, IsSeen, IsTakenOver, IsUndisputed, IsUnheardOf, KeepsOthers, Knows, KnowsNone, Suits, SuitsBare, SuitsBeside, SuitsLate, SuitsOthers, SuitsTail, SuitsTailLate, known_array, label_in, of_array, one_of_array};
+ghost use Rattle.paraid_imgrack.specs.Labels.{AreSeen, AreUnnamed, FitsSlot, IsBehind, IsCommoner, IsDeciding, IsFirst, IsLabelOf, IsLearned, IsNamed, IsNoLess, IsAmong, IsApart, IsOfAnotherTime, IsOfSlot, IsLabelSeen, IsTakenOver, IsUndisputed, IsUnheardOf, KeepsOthers, Knows, KnowsNone, Suits, SuitsBare, SuitsBeside, SuitsLate, SuitsOthers, SuitsTail, SuitsTailLate, known_array, label_in, of_array, one_of_array};
 
 use crate::label::Label;
 use crate::tail::Tail;
@@ -106,7 +106,7 @@ impl Identity {
         ensures taken { IfSome (label_in labels.now slot) (λ l. slot < self.old.disks
             → l.disk ≡ slot → l.array ≡ self.old.array → IsTakenOver self.new l) }
         ensures seen { slice_index self.old.seen slot ≡ 0
-            → IsSeen self.new (label_in labels.now slot) slot }
+            → IsLabelSeen self.new (label_in labels.now slot) slot }
         ensures others { (e : ℕ) → e ≢ slot
             → slice_index self.new.seen e ≡ slice_index self.old.seen e }
     {
