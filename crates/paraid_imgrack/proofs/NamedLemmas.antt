@@ -1,12 +1,12 @@
 -- Which label decides which array the images are of.
-use Rattle.std.proofs.Common.{◌≡◌, ◌≢◌, ℕ, ◌<◌, ◌≤◌, ◌+◌, ◌⊎◌, Bool, true, false, ◌&&◌, bytes_eq, nat_lt, min, if◌then◌else◌, Option, None, Some, IfSome, IsSomeAnd, refl, sym, ◌∙◌, ap, subst, arith, inl, inr, zero, suc}
+use Rattle.std.proofs.Common.{◌≡◌, ℕ, ◌<◌, ◌≤◌, ◌+◌, ◌⊎◌, Bool, true, false, ◌&&◌, bytes_eq, nat_lt, min, Option, None, Some, IfSome, refl, sym, ◌∙◌, ap, subst, arith, inl, inr, zero, suc}
 use Rattle.std.proofs.lemmas.Bool.{cases_lt}
 use Rattle.std.proofs.lemmas.Bool.Decides.{nat_tests}
 use Rattle.std.proofs.lemmas.Slice.Eq.{bytes_eq-Decides}
 use Rattle.paraid_base.proofs.PlacesLemmas.{sum_before_more, sum_before_none}
 use Rattle.paraid_base.specs.Sums.{sum_before}
 use Rattle.paraid_imgrack.specs.declared.label.Label.{Label}
-use Rattle.paraid_imgrack.specs.Labels.{AreUnnamed, IsCommoner, IsDeciding, IsFirst, IsOfMost, IsOver, IsUndisputed, label_in, of_array, one_of_array}
+use Rattle.paraid_imgrack.specs.Labels.{IsCommoner, IsDeciding, IsFirst, IsOfMost, IsOver, IsUndisputed, of_array, one_of_array}
 
 sum_same : (f g : ℕ → ℕ) (n : ℕ) → ((d : ℕ) → d < n → f d ≡ g d) → sum_before f n ≡ sum_before g n
 unfolding sum_before
