@@ -239,6 +239,7 @@ seen_by labels at i is so d below = subst (λ (o : Option Label). IsLabelSeen i 
 
 known_by : (labels : ℕ → Option Label) (at : ℕ → Option Label) (i : Identity) → ((d : ℕ) → d < 8 → labels d ≡ at d) → IsKnownBy labels i → IsKnownBy at i
 known_by labels at i is so = record {
+  due = so.due;
   named = named_by labels at i is so.named;
   learned = learned_by labels at i is so.learned;
   seen = seen_by labels at i is so.seen;

@@ -1,5 +1,5 @@
 -- What labels say of an image and of its array.
-use Rattle.std.specs.Prelude.{◌≡◌, ◌≢◌, ◌<◌, ◌≤◌, ◌⊎◌, ◌&&◌, ℕ, List, Option, None, Some, IfSome, IsSomeAnd, bytes_eq, if◌then◌else◌, nat_lt, option_map, slice_index, slice_index_or}
+use Rattle.std.specs.Prelude.{◌≡◌, ◌≢◌, ◌<◌, ◌≤◌, ◌⊎◌, ◌&&◌, ℕ, List, Option, None, Some, IfSome, IsSomeAnd, bytes_eq, if◌then◌else◌, nat_lt, option_map, slice_index, slice_index_or, true}
 use Rattle.paraid_base.specs.Sums.{sum_before}
 use Rattle.paraid_base.specs.Told.{HasRisen}
 use Rattle.paraid_imgrack.specs.declared.identity.Identity.{Identity}
@@ -256,11 +256,12 @@ abbrev pub IsLearned : (ℕ → Option Label) → Identity → Type 0
 IsLearned labels i = (d : ℕ) → d < 8
     → IfSome (labels d) (λ l. d < i.disks → l.disk ≡ d → l.array ≡ i.array → IsTakenOver i l)
 
--- no image is known to be less new than before, and the generation that labels get next has not
--- fallen
+-- No image is known to be less new than before, and the generation that labels get next has not
+-- fallen. Labels are due as they were.
 pub record IsNoLess (old new : Identity) : Type 0 where
   pub known : (e : ℕ) → slice_index old.known e ≤ slice_index new.known e
   pub generation : old.generation ≤ new.generation
+  pub due : new.is_new ≡ old.is_new
 
 -- this label is of the array and of this slot, which is one of it
 pub record IsOfSlot (i : Identity) (l : Label) (slot : ℕ) : Type 0 where
@@ -278,8 +279,9 @@ pub record IsLabelSeen (i : Identity) (label : Option Label) (slot : ℕ) : Type
 abbrev pub AreSeen : (ℕ → Option Label) → Identity → Type 0
 AreSeen labels i = (d : ℕ) → d < 8 → IsLabelSeen i (labels d) d
 
--- no image is known, and none was seen
+-- No image is known, and none was seen; and all are due to get a label.
 pub record KnowsNone (i : Identity) : Type 0 where
+  pub due : i.is_new ≡ true
   pub known : (e : ℕ) → slice_index i.known e ≡ 0
   pub seen : (e : ℕ) → slice_index i.seen e ≡ 0
 
@@ -302,9 +304,10 @@ pub record KeepsOthers (old new : Identity) (disk : ℕ) : Type 0 where
       ⊎ ((slice_index new.known disk ≡ new.generation)
       × (slice_index new.seen disk ≡ new.generation))
 
--- what is known of the array by its labels: which it is, how new its images are, and how new each
--- label was as it was read
+-- What is known of the array by its labels: which it is, how new its images are, and how new each
+-- label was as it was read. All images are due to get a label of the next generation.
 pub record IsKnownBy (labels : ℕ → Option Label) (i : Identity) : Type 0 where
+  pub due : i.is_new ≡ true
   pub named : IsNamed labels i
   pub learned : IsLearned labels i
   pub seen : AreSeen labels i

@@ -1,5 +1,7 @@
 //! A rack that serves no more. Nothing can be read or written, attached, parked or spun up.
 
+ghost use Rattle.std.specs.Prelude.{◌≡◌, IsSome};
+
 use crate::rack::ImageRack;
 use std::fs::{File, Files};
 
@@ -16,8 +18,11 @@ impl<F: Files<File = File> + Drop> Closed<F> {
         Closed { rack }
     }
 
-    /// Gives the images that were attached since the load the labels of a new array.
-    pub fn label_array(&mut self) {
+    /// Gives the images that were attached since the load the labels of a new array, unless they are
+    /// known to be of one.
+    pub fn label_array(&mut self)
+        ensures kept { IsSome self.old.rack.identity → self.new ≡ self.old }
+    {
         self.rack.label_array();
     }
 

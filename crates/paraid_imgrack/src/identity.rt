@@ -89,6 +89,7 @@ impl Identity {
         ensures named { IfSome result (IsNamed (label_in labels.now)) }
         ensures learned { IfSome result (IsLearned (label_in labels.now)) }
         ensures seen { IfSome result (AreSeen (label_in labels.now)) }
+        ensures due { IfSome result (λ i. i.is_new ≡ true) }
     {
         let named = named(labels)?;
         let mut identity = Identity::new(named.array, named.disks);

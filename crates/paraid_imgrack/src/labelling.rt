@@ -84,8 +84,14 @@ impl<F: Files<File = File> + Drop> ImageRack<F> {
         }
     }
 
-    /// Gives the images that were attached since the load the labels of a new array.
-    pub fn label_array(&mut self) {
+    /// Gives the images that were attached since the load the labels of a new array, unless they are
+    /// known to be of one.
+    pub fn label_array(&mut self)
+        ensures kept { IsSome self.old.identity → self.new ≡ self.old }
+    {
+        if self.identity.is_some() {
+            return;
+        }
         if let Some(array) = draw(&self.files) {
             self.identity = Some(Identity::new(array, self.count_attached()));
             self.renew_labels();
