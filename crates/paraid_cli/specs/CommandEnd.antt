@@ -64,10 +64,11 @@ EndsWithUsage {K} written old status =
     (new : K) × EndsWithLine (written old) (written new) usage_line status_words status
 
 -- A status of the edge's own: a closed or failed stream, an image that is refused, no memory, or
--- another command here.
-abbrev pub IsOwnStatus : ℕ → Type 0
-IsOwnStatus status = IsOneOf
-    (status_source ∷ status_sink ∷ status_not_an_array ∷ status_no_memory ∷ status_busy ∷ []) status
+-- another command here. A closed source refuses only a command that reads it.
+pub record IsOwnStatus (c : Command) (status : ℕ) : Type 0 where
+  pub among : IsOneOf
+      (status_source ∷ status_sink ∷ status_not_an_array ∷ status_no_memory ∷ status_busy ∷ []) status
+  pub source : status ≡ status_source → ReadsSource c
 
 -- There was no memory, and the program is left as it was; or it was used up, and this holds.
 abbrev pub UsesProgram : {P : Type 0} → P → Option P → ℕ → Type 0 → Type 0
@@ -87,7 +88,7 @@ pub record ServesReady {F : Type 0} (free : List Image → Type 0)
 abbrev pub EndsAsked : {P F : Type 0} → P → Option P
     → (List Image → Type 0) → (ImageRack F → Command → ℕ → Type 0) → List (List ℕ) → ℕ → Type 0
 EndsAsked program left free ended words status = (c : Command)
-    → AskFor c words → ((left ≡ Some program) × IsOwnStatus status)
+    → AskFor c words → ((left ≡ Some program) × IsOwnStatus c status)
     ⊎ ((left ≡ None) × ServesReady free ended c status)
 
 -- The program has told which words there are, with this status; or there was no memory, and it is

@@ -1,5 +1,7 @@
 -- With which rack a command may be served.
-use Rattle.std.specs.Prelude.{◌≡◌, List, length, false, true}
+use Rattle.std.specs.Prelude.{◌≡◌, ◌⊎◌, ℕ, ◌<◌, List, length, false, true}
+use Rattle.paraid_base.specs.Told.{HasRisen}
+use Rattle.paraid_imgrack.specs.Images.{IsLoaded, image_slot_at}
 use Rattle.paraid_imgrack.specs.declared.image.Image.{Image}
 use Rattle.paraid_imgrack.specs.declared.rack.ImageRack.{ImageRack}
 use Rattle.paraid_imgrack.specs.Looks.{images_of, HasNoMisfits, IsFitting, IsUnhindered, IsAsOpened}
@@ -19,10 +21,17 @@ pub record IsSound {F : Type 0} (rack : ImageRack F) : Type 0 where
   pub whole : IsWhole rack
   pub fitting : IsFitting rack
 
--- A new array is made only where it may be or, if that is forced, over a whole rack; all else needs
--- images that are of their slots. At the program, `free` says no more than that there are eight.
+-- Each slot looks as its image was opened, but for a log disk that has failed since.
+abbrev pub IsAsOpenedButLogs : {F : Type 0} → ImageRack F → Type 0
+IsAsOpenedButLogs rack = (d : ℕ) → d < length (images_of rack)
+    → IsLoaded (image_slot_at (images_of rack) d)
+    ⊎ ((d < 2) × HasRisen 0 (image_slot_at (images_of rack) d).faults)
+
+-- A new array is made only where it may be, on a rack of which no more was asked than what its log
+-- disks hold; or, if that is forced, over a whole rack. All else needs images that are of their
+-- slots. At the program, `free` says no more than that there are eight.
 abbrev pub IsReady : {F : Type 0} → (List Image → Type 0) → Command → ImageRack F → Type 0
-IsReady free (Format false) rack = free (images_of rack)
+IsReady free (Format false) rack = free (images_of rack) × IsAsOpenedButLogs rack
 IsReady free (Format true) rack = IsWhole rack
 IsReady free Run rack = IsSound rack
 IsReady free (Spare stock wait) rack = IsSound rack

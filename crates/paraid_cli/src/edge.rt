@@ -1,12 +1,12 @@
 //! What stands between the program and the system: no stream may become an image, one command works
 //! in a folder, and images that are there and do not belong or cannot be opened are not taken for
 //! lost ones.
-ghost use Rattle.std.specs.Prelude.{◌≡◌, ◌⊎◌, ◌<◌, ℕ, None, IfNone, IfSome, IsSome, map, string_bytes};
-ghost use Rattle.paraid_cli.specs.CommandEnd.{EndsAsked, EndsUnasked, IsOwnStatus, UsesProgram};
-ghost use Rattle.paraid_cli.specs.Ready.{IsReady, IsSound, IsWhole};
+ghost use Rattle.std.specs.Prelude.{◌≡◌, ◌⊎◌, ◌↔◌, ◌<◌, ℕ, None, Some, IfNone, IfSome, IsSome, IsTrue, map, string_bytes};
+ghost use Rattle.paraid_cli.specs.CommandEnd.{EndsAsked, EndsUnasked, IsOwnStatus};
+ghost use Rattle.paraid_cli.specs.Ready.{IsAsOpenedButLogs, IsReady, IsSound, IsWhole};
 ghost use Rattle.paraid_imgrack.specs.Images.{misfit_at, IsFirstMisfit};
 ghost use Rattle.paraid_imgrack.specs.Looks.{images_of, HasTrueMisfits, IsUnhindered};
-ghost use Rattle.paraid_serve.specs.Statuses.{status_sink};
+ghost use Rattle.paraid_program.specs.CommandDoes.{ReadsSource};
 ghost use Rattle.paraid_words.specs.Words.{AskFor};
 ghost use Rattle.paraid_words.specs.declared.command.Command.{Command as CommandType};
 
@@ -102,7 +102,9 @@ fn work<'a, H: Host, P: Program<&'a H>>(
 }
 
 /// Whether a command reads the standard input.
-fn reads_input(command: &Command) -> bool {
+fn reads_input(command: &Command) -> bool
+    ensures { IsTrue result ↔ ReadsSource command.now }
+{
     match command {
         Command::Format { .. } | Command::Run | Command::Spare { .. } => true,
         Command::Nbd | Command::Vol | Command::Plan { .. } => true,
@@ -112,7 +114,7 @@ fn reads_input(command: &Command) -> bool {
 
 /// Writes the last line, unless a client reads the output, and gives the status.
 fn end<H: Host>(rt: &H, command: &Command, line: &str, status: u8) -> u8
-    ensures { (result ≡ status) ⊎ (result ≡ status_sink) }
+    ensures { (c : CommandType) → IsOwnStatus c status → IsOwnStatus c result }
 {
     if let Command::Nbd = command {
         return status;
@@ -123,12 +125,19 @@ fn end<H: Host>(rt: &H, command: &Command, line: &str, status: u8) -> u8
     }
 }
 
+/// The last line where there is no memory.
+fn end_without_memory<H: Host>(rt: &H, command: &Command) -> u8
+    ensures { (c : CommandType) → IsOwnStatus c result }
+{
+    end(rt, command, "nomemory", status::NO_MEMORY)
+}
+
 /// Without the folder no image is served. Where descriptors are wanting, one is shut.
 fn work_nowhere<H: Host>(rt: &H, command: &Command) -> u8
-    ensures { IsOwnStatus result }
+    ensures { IsOwnStatus command.now result }
 {
     let Ok(rack) = ImageRack::load(rt, rt.alloc(), MOST_SLOTS) else {
-        return status::NO_MEMORY;
+        return end_without_memory(rt, command);
     };
     if let Some((disk, hindrance)) = rack.hindrance() {
         return tell_hindrance(rt, command, disk, hindrance);
@@ -151,7 +160,7 @@ fn work_there<'a, H: Host, P: Program<&'a H>>(
         (map string_bytes words.now.items) result.status }
 {
     let Ok(mut rack) = ImageRack::load(rt, rt.alloc(), MOST_SLOTS) else {
-        return EdgeEnd::unused(program, status::NO_MEMORY);
+        return EdgeEnd::unused(program, end_without_memory(rt, command));
     };
     if let Some((disk, hindrance)) = hindrance_of(&rack, command) {
         return EdgeEnd::unused(program, tell_hindrance(rt, command, disk, hindrance));
@@ -176,15 +185,15 @@ fn hand_over<'a, H: Host, P: Program<&'a H>>(
     requires { (c : CommandType) → AskFor c (map string_bytes words.now.items)
         → IsReady (P.free program) c rack.inside }
     ensures { (c : CommandType) → AskFor c (map string_bytes words.now.items)
-        → UsesProgram program result.left result.status
-        (P.ended program rack.entry.inside c result.status) }
+        → ((result.left ≡ Some program) × IsOwnStatus c result.status)
+        ⊎ ((result.left ≡ None) × P.ended program rack.entry.inside c result.status) }
 {
     match program.serve(words, rack) {
         Ok(ProgramEnd { status, rack }) => {
             end_images(rt, command, status, rack);
             EdgeEnd { status, left: None }
         }
-        Err(program) => EdgeEnd::unused(program, status::NO_MEMORY),
+        Err(program) => EdgeEnd::unused(program, end_without_memory(rt, command)),
     }
 }
 
@@ -217,7 +226,7 @@ fn is_crowded<H: Host>(rack: &ImageRack<&H>, command: &Command) -> bool {
 }
 
 fn tell_hindrance<H: Host>(rt: &H, command: &Command, disk: u8, hindrance: Hindrance) -> u8
-    ensures { IsOwnStatus result }
+    ensures { IsOwnStatus command.now result }
 {
     match hindrance {
         Hindrance::Busy => {
@@ -241,7 +250,7 @@ fn tell_hindrance<H: Host>(rt: &H, command: &Command, disk: u8, hindrance: Hindr
 
 /// Disk 0 is named with it, since each refusal names a disk.
 fn tell_crowd<H: Host>(rt: &H, command: &Command) -> u8
-    ensures { IsOwnStatus result }
+    ensures { IsOwnStatus command.now result }
 {
     let _ = eprintln!(rt; "paraid: too few files more may be open: see `ulimit -n`");
     refuse(rt, command, 0)
@@ -271,7 +280,8 @@ fn claimed<'a, H: Host, P: Program<&'a H>>(
     rack: &mut ImageRack<&'a H>,
 ) -> Option<u8>
     requires { IsWhole rack.old }
-    ensures { IfNone result (P.free program.now (images_of rack.new)) }
+    ensures free { IfNone result (P.free program.now (images_of rack.new)) }
+    ensures opened { IsAsOpenedButLogs rack.new }
 {
     let (disk, claim) = program.claimed(rack)?;
     let _ = match claim {
@@ -335,7 +345,7 @@ fn tell_causes<H: Host>(rt: &H, rack: &ImageRack<&H>) {
 
 /// The last line of a command that is refused for an image.
 fn refuse<H: Host>(rt: &H, command: &Command, disk: u8) -> u8
-    ensures { IsOwnStatus result }
+    ensures { IsOwnStatus command.now result }
 {
     if let Command::Nbd = command {
         return status::NOT_AN_ARRAY;

@@ -4,7 +4,7 @@
 //! alone: so no other code can give a status in its place, and none can leave a look at the images
 //! out. It is given away with the words. So what it has served ends as it says, and it serves once.
 ghost use Rattle.std.specs.Prelude.{◌≡◌, ℕ, List, Some, IfErr, IfOk, IfNone, map, string_bytes};
-ghost use Rattle.paraid_cli.specs.Ready.{IsReady, IsWhole};
+ghost use Rattle.paraid_cli.specs.Ready.{IsAsOpenedButLogs, IsReady, IsWhole};
 ghost use Rattle.paraid_imgrack.specs.Looks.{images_of};
 ghost use Rattle.paraid_imgrack.specs.declared.image.Image.{Image as ImageType};
 ghost use Rattle.paraid_imgrack.specs.declared.rack.ImageRack.{ImageRack as RackType};
@@ -38,7 +38,8 @@ pub(crate) trait Program<F>: Sized {
     /// the command itself.
     fn claimed(&self, rack: &mut ImageRack<F>) -> Option<(DiskNo, Claim)>
         requires { IsWhole rack.old }
-        ensures { IfNone result (free self.now (images_of rack.new)) };
+        ensures free { IfNone result (free self.now (images_of rack.new)) }
+        ensures opened { IsAsOpenedButLogs rack.new };
 
     /// Does the command that the words ask for. No call is made on the rack before it, and none
     /// after.

@@ -5,6 +5,8 @@
 #![tactic(auto)]
 
 #[cfg(test)]
+mod batches;
+#[cfg(test)]
 mod commits;
 #[cfg(test)]
 mod device;
@@ -33,5 +35,6 @@ mod sums;
 #[cfg(test)]
 mod traces;
 #[cfg(test)]
-#[cfg(test)]
 mod volumes;
+#[cfg(test)]
+mod windows;
