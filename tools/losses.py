@@ -7,7 +7,7 @@ import images
 
 # A sector further on may be bad, or writes may fail: that is not looked at, as it would keep a drive busy.
 SOUND = ("nothing is wrong with its first block, size and label: the kernel's log (dmesg) may tell why it was lost,"
-         " and the program's last lines do")
+         " and the program tells its error as it ends")
 
 
 def seen(path, disk):
