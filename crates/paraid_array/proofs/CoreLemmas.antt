@@ -19,7 +19,7 @@ use Rattle.paraid_core.specs.Lost.{CoreMarksLost, CoreTellsLosses}
 use Rattle.paraid_core.specs.Steps.{AreUnsyncedCopied}
 use Rattle.paraid_session.specs.Powers.{FitsSlots}
 use Rattle.paraid_session.specs.Turn.{Point}
-use Rattle.paraid_shift.specs.Serving.{IsCoreServing}
+use Rattle.paraid_event.specs.CoreServing.{IsCoreServing}
 use Rattle.paraid_upkeep.specs.Service.{IsOutKnown}
 use Rattle.paraid_upkeep.proofs.OutLemmas.{known_then}
 use Rattle.paraid_upkeep.proofs.ServiceLemmas.{fits_then, service_serving, service_then, serving_service}

@@ -12,7 +12,7 @@ use Rattle.paraid_core.specs.CoreInvariant.{AreCopiesSynced, is_copied}
 use Rattle.paraid_core.specs.Cores.{CanCoreServe, IsCoreReady}
 use Rattle.paraid_core.specs.Units.{IsRebuilding}
 use Rattle.paraid_session.specs.Powers.{FitsSlots}
-use Rattle.paraid_shift.specs.Serving.{AreAllLarge, IsCoreServing}
+use Rattle.paraid_event.specs.CoreServing.{AreAllLarge, IsCoreServing}
 use Rattle.paraid_upkeep.specs.Service.{IsOutKnown}
 
 -- the meta with one tick more

@@ -17,7 +17,7 @@ use Rattle.paraid_recover.specs.FirstPoint.{IsFirstPoint}
 use Rattle.paraid_txn.specs.Stores.{disks_of, epoch_of, named_of}
 use Rattle.paraid_event.specs.Service.{Service, service_of}
 use Rattle.paraid_event.specs.Stands.{StandsAt}
-use Rattle.paraid_shift.specs.Serving.{IsCoreServing}
+use Rattle.paraid_event.specs.CoreServing.{IsCoreServing}
 use Rattle.paraid_upkeep.specs.Service.{IsOutKnown}
 
 -- The core serves what a mount of these slots has left: its slots fit its meta and are powered by

@@ -14,7 +14,7 @@ use Rattle.paraid_session.specs.Powers.{FitsSlots}
 use Rattle.paraid_txn.specs.Stores.{named_of, store_rack}
 use Rattle.paraid_core.specs.declared.staged.Core.{Core}
 use Rattle.paraid_core.specs.Units.{IsRebuilding}
-use Rattle.paraid_shift.specs.Serving.{IsCoreServing}
+use Rattle.paraid_event.specs.CoreServing.{IsCoreServing}
 use Rattle.paraid_array.specs.declared.ended.HaltedAt.{HaltedAt}
 
 -- Its core can serve, with this setup and over so many slots; the disk that is out is absent unless

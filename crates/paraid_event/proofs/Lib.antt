@@ -19,6 +19,7 @@ pub mod HinderedLemmas
 pub mod TakenLemmas
 pub mod BeginLemmas
 pub mod ServingLemmas
+pub mod CoreServingLemmas
 pub mod PowerLemmas
 pub mod UpshiftLemmas
 pub mod FirstLemmas

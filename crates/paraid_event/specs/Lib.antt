@@ -3,6 +3,7 @@ pub mod Service
 pub mod Stands
 pub mod Steps
 pub mod Moving
+pub mod CoreServing
 pub mod Parts
 pub mod Counts
 pub mod Lost

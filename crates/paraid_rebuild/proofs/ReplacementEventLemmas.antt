@@ -22,7 +22,7 @@ use Rattle.paraid_image.specs.Mark.{meta_with_lost}
 use Rattle.paraid_core.specs.Lost.{MarksLost}
 use Rattle.paraid_core.specs.Replaced.{KeepsCommitted}
 use Rattle.paraid_core.proofs.CommitLemmas.{both_of}
-use Rattle.paraid_shift.proofs.ServingLemmas.{copies_kept}
+use Rattle.paraid_event.proofs.CoreServingLemmas.{copies_kept}
 use Rattle.paraid_txn.specs.Commit.{IsOldOrNew}
 use Rattle.paraid_txn.specs.Stores.{named_of, store_rack}
 use Rattle.paraid_txn.specs.Uses.{EachCall}

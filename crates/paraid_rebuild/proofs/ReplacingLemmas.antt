@@ -33,8 +33,8 @@ use Rattle.paraid_core.specs.Lost.{MarksLost}
 use Rattle.paraid_core.specs.Steps.{AreUnsyncedCopied, IsMarkedFrom, IsNamedOrAbsent}
 use Rattle.paraid_core.specs.Units.{IsRebuilding}
 use Rattle.paraid_core.proofs.ChainLemmas.{held_less, under}
-use Rattle.paraid_shift.specs.Serving.{IsCoreServing}
-use Rattle.paraid_shift.proofs.ServingLemmas.{copies_kept}
+use Rattle.paraid_event.specs.CoreServing.{IsCoreServing}
+use Rattle.paraid_event.proofs.CoreServingLemmas.{copies_kept}
 use Rattle.paraid_rebuild.specs.Replacing.{IsReplacedFrom, OnlyLosesBut}
 
 through_all : (P Q : Disks → Type 0) → ((s : Disks) → P s → Q s) → (s : Disks) (cs : List Call) → Through P s cs → Through Q s cs

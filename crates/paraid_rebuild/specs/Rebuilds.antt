@@ -18,7 +18,7 @@ use Rattle.paraid_core.specs.Units.{IsRebuilding}
 use Rattle.paraid_event.specs.Service.{service_of}
 use Rattle.paraid_event.specs.Steps.{LosesInSteps, StepsInEvent}
 use Rattle.paraid_session.specs.Faults.{HaveNotFallen}
-use Rattle.paraid_shift.specs.Serving.{IsCoreServing, IsHeldFromRest, StandsFromRest, StaysAtRest}
+use Rattle.paraid_event.specs.CoreServing.{IsCoreServing, IsHeldFromRest, StandsFromRest, StaysAtRest}
 
 -- A rebuild of disk `disk` can go on: the core serves, the last commit names the disk out, and it
 -- spins.

@@ -9,7 +9,7 @@ ghost use Rattle.paraid_rack.specs.Told.{CrashTriple, Ran};
 ghost use Rattle.paraid_rebuild.specs.Rebuilds.{CanRebuild, HasCommitted, KeepsDisk, LosesAgain, SparesSlots};
 ghost use Rattle.paraid_rebuild.specs.Replacing.{CommitsCopies, JoinsCopied, LosesCopies, LosesJoining};
 ghost use Rattle.paraid_record.specs.Range.{rebuild_units};
-ghost use Rattle.paraid_shift.specs.Serving.{RestsInShift};
+ghost use Rattle.paraid_event.specs.CoreServing.{RestsInShift};
 ghost use Rattle.paraid_base.specs.Log.{epoch_limit};
 
 use crate::replaced::is_gone;

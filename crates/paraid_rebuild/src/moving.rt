@@ -10,7 +10,7 @@ ghost use Rattle.paraid_core.specs.Units.{UnitsRebuilt};
 ghost use Rattle.paraid_rack.specs.Told.{CrashTriple, Ran};
 ghost use Rattle.paraid_rebuild.specs.Rebuilds.{CanRebuild, KeepsDisk, LosesAgain, SparesSlots};
 ghost use Rattle.paraid_record.specs.Range.{rebuild_units};
-ghost use Rattle.paraid_shift.specs.Serving.{IsCoreServing};
+ghost use Rattle.paraid_event.specs.CoreServing.{IsCoreServing};
 
 use crate::replaced::is_gone;
 use paraid_base::{DiskNo, Two};

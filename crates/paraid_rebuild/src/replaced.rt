@@ -13,7 +13,7 @@ ghost use Rattle.paraid_image.specs.Out.{named_out};
 ghost use Rattle.paraid_rack.specs.Told.{CrashTriple, Ran};
 ghost use Rattle.paraid_rebuild.specs.Rebuilds.{HasCommitted, HasFreshDisk, KeepsCounts, LacksFreshDisk, SparesSlots};
 ghost use Rattle.paraid_rebuild.specs.Replacing.{IsReplacedFrom, LeavesArrayBut, LosesFresh};
-ghost use Rattle.paraid_shift.specs.Serving.{IsCoreServing};
+ghost use Rattle.paraid_event.specs.CoreServing.{IsCoreServing};
 ghost use Rattle.paraid_base.specs.Log.{epoch_limit};
 
 use paraid_base::{DiskNo, Two};

@@ -10,7 +10,7 @@ ghost use Rattle.paraid_image.specs.Mark.{meta_after_loss};
 ghost use Rattle.paraid_rack.specs.Told.{CrashTriple, Ran};
 ghost use Rattle.paraid_rebuild.specs.Rebuilds.{CanRebuild, HasCommitted, HoldsFromRest, IsEventPart, KeepsDisk, LosesAgain, ServesLater, SparesSlots};
 ghost use Rattle.paraid_record.specs.Range.{rebuild_units};
-ghost use Rattle.paraid_shift.specs.Serving.{IsHeldInShift, IsCoreServing, RestsInShift, StandsInShift};
+ghost use Rattle.paraid_event.specs.CoreServing.{IsHeldInShift, IsCoreServing, RestsInShift, StandsInShift};
 ghost use Rattle.paraid_txn.specs.Stores.{named_of};
 ghost use Rattle.paraid_base.specs.Log.{epoch_limit};
 

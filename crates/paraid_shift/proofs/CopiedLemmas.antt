@@ -28,7 +28,8 @@ use Rattle.paraid_core.proofs.CallLemmas.{keeps_held}
 use Rattle.paraid_core.proofs.KindLemmas.{calls_milder, sync_data}
 use Rattle.paraid_core.proofs.MarkCellLemmas.{cells_begin}
 use Rattle.paraid_core.proofs.StepLemmas.{held_runs_then, runs_end, runs_then}
-use Rattle.paraid_shift.specs.Serving.{CopiesFromRest, IsHeldFromRest, KeepsCopied, RestsInShift, StandsFromRest}
+use Rattle.paraid_event.specs.CoreServing.{IsHeldFromRest, RestsInShift, StandsFromRest}
+use Rattle.paraid_shift.specs.Rising.{CopiesFromRest, KeepsCopied}
 use Rattle.paraid_shift.specs.Units.{are_copied_before}
 
 -- of fewer cells it holds too

@@ -22,9 +22,9 @@ use Rattle.paraid_core.specs.Steps.{IsMarkedFrom}
 use Rattle.paraid_core.proofs.StepLemmas.{marked_from_setup}
 use Rattle.paraid_event.proofs.ShiftMarkLemmas.{down_powers}
 use Rattle.paraid_session.specs.Powers.{FitsSlots}
-use Rattle.paraid_shift.specs.Serving.{AreAllLarge}
+use Rattle.paraid_event.specs.CoreServing.{AreAllLarge}
 use Rattle.paraid_shift.proofs.PowersLemmas.{flipped_powers, phase_down, phase_up, rises_same, rising_same, rising_spins}
-use Rattle.paraid_shift.proofs.ServingLemmas.{large_then, marked_gear, marked_named, none_known, turns_lost}
+use Rattle.paraid_event.proofs.CoreServingLemmas.{large_then, marked_gear, marked_named, none_known, turns_lost}
 
 -- a disk that is named out after the calls, where it is absent
 abbrev pub IsAbsentOut : (ℕ → Slot) → Meta → Type 0

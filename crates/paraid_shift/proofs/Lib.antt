@@ -1,4 +1,3 @@
-pub mod ServingLemmas
 pub mod FitsLemmas
 pub mod UnitLemmas
 pub mod MovingLemmas

@@ -39,10 +39,10 @@ use Rattle.paraid_event.proofs.ShiftMarkLemmas.{up_mark}
 use Rattle.paraid_event.proofs.StepLemmas.{ran_both, ran_end, ran_three}
 use Rattle.paraid_event.proofs.StepMarkLemmas.{again_steps, commit_loses_steps, mark_steps, powered_loses}
 use Rattle.paraid_shift.specs.Losing.{CoreBearsLoss, LosesMark, LosesUp}
-use Rattle.paraid_shift.specs.Serving.{IsHeldFromRest}
+use Rattle.paraid_event.specs.CoreServing.{IsHeldFromRest}
 use Rattle.paraid_shift.specs.Steps.{CommitsMark, CoreLosesInSteps, CoreStepsToMark, EndsLosing, MakesPowerCalls, OpensUp}
 use Rattle.paraid_shift.proofs.PowersLemmas.{mark_service}
-use Rattle.paraid_shift.proofs.ServingLemmas.{marked_named}
+use Rattle.paraid_event.proofs.CoreServingLemmas.{marked_named}
 use Rattle.paraid_shift.proofs.StepsLemmas.{core_steps_none, mark_stands}
 
 -- One disk is spun up or parked.

@@ -26,7 +26,7 @@ use Rattle.paraid_event.proofs.GivenStepLemmas.{between_lost}
 use Rattle.paraid_event.proofs.ShownLemmas.{shown_rests}
 use Rattle.paraid_event.proofs.StepLemmas.{lose_then, loses_bound, part_loses, ran_both, ran_then, shown_loses}
 use Rattle.paraid_event.proofs.StepMarkLemmas.{commit_loses_steps}
-use Rattle.paraid_shift.specs.Serving.{IsHeldFromRest}
+use Rattle.paraid_event.specs.CoreServing.{IsHeldFromRest}
 use Rattle.paraid_shift.specs.Steps.{CoreLosesInEvent, CoreLosesInSteps, CoreStepsInEvent, CoreStepsToMark}
 
 -- after copies that ended well

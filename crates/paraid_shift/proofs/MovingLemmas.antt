@@ -13,7 +13,7 @@ use Rattle.paraid_core.specs.Steps.{IsMarkedFrom}
 use Rattle.paraid_core.proofs.StepLemmas.{unmarked}
 use Rattle.paraid_event.specs.Service.{service_of}
 use Rattle.paraid_shift.specs.Units.{AreCellsDone, AreUnitsDone, CoreCountsMoved, HasDirtyBefore, IsGroupOf, MovesUpTo}
-use Rattle.paraid_shift.proofs.ServingLemmas.{marked_named, marked_none}
+use Rattle.paraid_event.proofs.CoreServingLemmas.{marked_named, marked_none}
 use Rattle.paraid_shift.proofs.UnitLemmas.{cell_moves, moves_none, moves_then, stripes_move}
 
 -- a disk that is out is named

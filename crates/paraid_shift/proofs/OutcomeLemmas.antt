@@ -20,11 +20,11 @@ use Rattle.paraid_core.specs.Steps.{IsMarkedFrom, IsNamedOrAbsent, IsStillOut}
 use Rattle.paraid_core.proofs.ChainLemmas.{marked_epoch}
 use Rattle.paraid_core.proofs.StepLemmas.{runs_none}
 use Rattle.paraid_shift.specs.Outcomes.{CommitsInEvent, MarksGroup, PowersDisks, ServesOn}
-use Rattle.paraid_shift.specs.Serving.{IsCoreServing, LeavesArray, RestsInShift}
+use Rattle.paraid_event.specs.CoreServing.{IsCoreServing, LeavesArray, RestsInShift}
 use Rattle.paraid_shift.proofs.FitsLemmas.{fits_committed, fits_marked}
 use Rattle.paraid_shift.proofs.LossLemmas.{core_bears_none, core_bears_then}
 use Rattle.paraid_shift.proofs.PowersLemmas.{powered_none, powered_then}
-use Rattle.paraid_shift.proofs.ServingLemmas.{array_marked, chain, leaves_array_none, leaves_array_then, marked_none, marked_then, none_known}
+use Rattle.paraid_event.proofs.CoreServingLemmas.{array_marked, chain, leaves_array_none, leaves_array_then, marked_none, marked_then, none_known}
 
 pub staged_none : {A : Type 0} (batch : List A) (count : ℕ) → count ≡ length batch → count ≡ 0 → batch ≡ []
 staged_none [] count is none = refl

@@ -12,12 +12,12 @@ use Rattle.paraid_core.specs.Lost.{CoreTellsLosses}
 use Rattle.paraid_core.specs.Steps.{LeavesCore}
 use Rattle.paraid_shift.specs.Outcomes.{PowersDisks}
 use Rattle.paraid_shift.specs.Parts.{KeepsRack, SparesRack}
-use Rattle.paraid_shift.specs.Serving.{LeavesArray}
+use Rattle.paraid_event.specs.CoreServing.{LeavesArray}
 use Rattle.paraid_shift.specs.Steps.{CoreLosesInSteps, CoreStepsInEvent}
 use Rattle.paraid_shift.proofs.LossLemmas.{core_tells_after}
 use Rattle.paraid_shift.proofs.MovedLossLemmas.{core_loses_then, core_loses_within}
 use Rattle.paraid_shift.proofs.OutcomeLemmas.{no_fall_then}
-use Rattle.paraid_shift.proofs.ServingLemmas.{two_array}
+use Rattle.paraid_event.proofs.CoreServingLemmas.{two_array}
 
 -- a call that ended well
 pub keeps_done : {R A : Type 0} {g : Ghosts R} {a b : Core R g} {Told : Two → Type 0} {it : A} → LeavesArray g.slot_count g.slot a b → KeepsRack a b Told (Ok it)

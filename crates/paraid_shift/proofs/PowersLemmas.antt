@@ -46,9 +46,9 @@ use Rattle.paraid_event.proofs.StepMarkLemmas.{again_steps, powered_steps}
 use Rattle.paraid_record.specs.Range.{IsInRange, IsPhaseInRange}
 use Rattle.paraid_event.proofs.ShiftMarkLemmas.{up_powers}
 use Rattle.paraid_event.proofs.ShownLemmas.{shown_rests}
-use Rattle.paraid_shift.specs.Serving.{RestsInShift, StaysAtRest}
+use Rattle.paraid_event.specs.CoreServing.{RestsInShift, StaysAtRest}
 use Rattle.paraid_shift.specs.Steps.{CommitsMark, MakesPowerCalls, MarksPowered}
-use Rattle.paraid_shift.proofs.ServingLemmas.{marked_gear, marked_named}
+use Rattle.paraid_event.proofs.CoreServingLemmas.{marked_gear, marked_named}
 
 -- nothing was called
 pub powered_none : (slot : ℕ → Slot) (m : Meta) → MarksPowered slot m m

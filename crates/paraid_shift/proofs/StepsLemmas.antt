@@ -31,9 +31,9 @@ use Rattle.paraid_event.proofs.StepLemmas.{data_steps, follow, goes_bound, goes_
 use Rattle.paraid_event.proofs.StepMarkLemmas.{commit_steps, copied_steps, follow_mark, mark_steps}
 use Rattle.paraid_event.proofs.ShiftMarkLemmas.{filled_mark}
 use Rattle.paraid_image.specs.Power.{power_by_gear}
-use Rattle.paraid_shift.specs.Serving.{RestsInShift, StandsFromRest}
+use Rattle.paraid_event.specs.CoreServing.{RestsInShift, StandsFromRest}
 use Rattle.paraid_shift.specs.Steps.{CoreServesMarked, CoreStepsInEvent, CoreStepsToMark, StepsOrWaits}
-use Rattle.paraid_shift.proofs.ServingLemmas.{lowered}
+use Rattle.paraid_event.proofs.CoreServingLemmas.{lowered}
 
 -- what a mark makes of what stands, with no call
 pub mark_stands : (P A B : Disks → Type 0) (old new : Option Trail) → new ≡ old → Ran old new (CrashTriple P A B) → (t : Trail) → new ≡ Some t → A (now t) → B (now t)

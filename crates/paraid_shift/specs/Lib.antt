@@ -1,4 +1,4 @@
-pub mod Serving
+pub mod Rising
 pub mod Units
 pub mod Steps
 pub mod Losing

@@ -15,7 +15,8 @@ use Rattle.paraid_core.specs.declared.staged.Core.{Core}
 use Rattle.paraid_core.specs.Cores.{CoreStandsFor, IsCoreHeldSinceCommit}
 use Rattle.paraid_core.specs.Steps.{IsMarkedFrom, IsNamedOrAbsent}
 use Rattle.paraid_shift.specs.Losing.{CoreBearsLoss}
-use Rattle.paraid_shift.specs.Serving.{HasBegunUp, IsComingUp, IsCoreServing, KeepsFit, LeavesArray, RestsInShift, StaysAtRest}
+use Rattle.paraid_event.specs.CoreServing.{IsCoreServing, KeepsFit, LeavesArray, RestsInShift, StaysAtRest}
+use Rattle.paraid_shift.specs.Rising.{HasBegunUp, IsComingUp}
 use Rattle.paraid_shift.specs.Steps.{CommitsMark, CoreLosesInEvent, CoreLosesInSteps, CoreServesMarked, CoreStepsInEvent, CoreStepsToMark, MarksPowered, OpensUp}
 use Rattle.paraid_shift.specs.Units.{AreCellsDone, AreUnitsDone, CoreCountsMoved}
 

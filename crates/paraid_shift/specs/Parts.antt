@@ -17,7 +17,7 @@ use Rattle.paraid_core.specs.Cores.{core_down}
 use Rattle.paraid_core.specs.Lost.{CoreMarksLost}
 use Rattle.paraid_core.specs.Steps.{IsHeldStill, IsNamedOrAbsent, LeavesCore}
 use Rattle.paraid_shift.specs.Outcomes.{PowersDisks}
-use Rattle.paraid_shift.specs.Serving.{IsCoreServing, IsHeldFromRest, KeepsFit, LeavesArray, StandsFromRest}
+use Rattle.paraid_event.specs.CoreServing.{IsCoreServing, IsHeldFromRest, KeepsFit, LeavesArray, StandsFromRest}
 use Rattle.paraid_shift.specs.Steps.{MakesPowerCalls}
 use Rattle.paraid_base.specs.Log.{epoch_limit}
 

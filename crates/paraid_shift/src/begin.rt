@@ -15,7 +15,8 @@ ghost use Rattle.paraid_record.specs.Range.{AreNextGears, allowed_spins};
 ghost use Rattle.paraid_shift.specs.Losing.{LosesUp};
 ghost use Rattle.paraid_shift.specs.Outcomes.{CommitsUp};
 ghost use Rattle.paraid_shift.specs.Parts.{CanBeginShift, KeepsContents, KeepsRack, ServesShifted, SparesRack, PowersFromRest};
-ghost use Rattle.paraid_shift.specs.Serving.{HasBegunUp, IsComingUp, IsCoreServing, RestsInShift};
+ghost use Rattle.paraid_event.specs.CoreServing.{IsCoreServing, RestsInShift};
+ghost use Rattle.paraid_shift.specs.Rising.{HasBegunUp, IsComingUp};
 ghost use Rattle.paraid_shift.specs.Steps.{CoreLosesInSteps, CoreStepsInEvent};
 ghost use Rattle.paraid_txn.specs.Stores.{IsSameStore};
 

@@ -14,7 +14,7 @@ ghost use Rattle.paraid_rack.specs.Told.{CrashTriple, Ran};
 ghost use Rattle.paraid_shift.specs.Losing.{LosesMark};
 ghost use Rattle.paraid_shift.specs.Outcomes.{CommitsGear};
 ghost use Rattle.paraid_shift.specs.Parts.{CanEndShift, KeepsContents, KeepsRack, ServesShifted, SparesRack, PowersFromRest};
-ghost use Rattle.paraid_shift.specs.Serving.{IsCoreServing, RestsInShift};
+ghost use Rattle.paraid_event.specs.CoreServing.{IsCoreServing, RestsInShift};
 ghost use Rattle.paraid_shift.specs.Steps.{EndsInSteps, EndsLosing};
 ghost use Rattle.paraid_txn.specs.Stores.{IsSameStore};
 

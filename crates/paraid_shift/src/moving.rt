@@ -8,7 +8,7 @@ ghost use Rattle.paraid_core.specs.Cores.{IsCoreReady, batch_of, core_table, met
 ghost use Rattle.paraid_core.specs.Steps.{IsMarkedFrom, IsNamedOrAbsent};
 ghost use Rattle.paraid_shift.specs.Outcomes.{CommitsInEvent, LosesInCommit, MovesGroup, ServesOn, StepsOn};
 ghost use Rattle.paraid_shift.specs.Parts.{AreStripesToFill, CanMoveUnits, KeepsRack, SparesRack};
-ghost use Rattle.paraid_shift.specs.Serving.{IsCoreServing};
+ghost use Rattle.paraid_event.specs.CoreServing.{IsCoreServing};
 ghost use Rattle.paraid_shift.specs.Steps.{CoreLosesInSteps, CoreStepsInEvent, StepsOrWaits};
 ghost use Rattle.paraid_shift.specs.Units.{AreCellsDone, AreCoreUnitsLeft, AreUnitsDone, CoreCountsMoved, MovesUpTo};
 ghost use Rattle.paraid_base.specs.Log.{epoch_limit};

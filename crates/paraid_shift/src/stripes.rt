@@ -9,7 +9,7 @@ ghost use Rattle.paraid_image.specs.Out.{named_out};
 ghost use Rattle.paraid_rack.specs.Told.{CrashTriple, Ran};
 ghost use Rattle.paraid_shift.specs.Outcomes.{MarksStripes};
 ghost use Rattle.paraid_shift.specs.Parts.{AreStripesToFill, CanMoveUnits, CopiesUnits, SparesRack};
-ghost use Rattle.paraid_shift.specs.Serving.{RestsInShift};
+ghost use Rattle.paraid_event.specs.CoreServing.{RestsInShift};
 ghost use Rattle.paraid_shift.specs.Steps.{CoreLosesInSteps};
 
 use paraid_base::Two;

@@ -39,7 +39,7 @@ use Rattle.paraid_event.proofs.StateLemmas.{marked_state, starts_down, starts_up
 use Rattle.paraid_event.proofs.StepLemmas.{lose_then, ran_both, ran_then}
 use Rattle.paraid_event.proofs.StepMarkLemmas.{cells_steps}
 use Rattle.paraid_shift.specs.Steps.{CoreLosesInSteps, CoreStepsInEvent}
-use Rattle.paraid_shift.specs.Serving.{HasBegunUp}
+use Rattle.paraid_shift.specs.Rising.{HasBegunUp}
 use Rattle.paraid_shift.proofs.StepsLemmas.{core_steps_then}
 use Rattle.paraid_upkeep.specs.Directions.{HasBegun, HasMarkedShift, IsNextTo, IsRefusedTo, MayGo, asked_event}
 use Rattle.paraid_upkeep.specs.Refusals.{IsShiftStateOf, MayGoDown, MayGoUp, fault_answer}

@@ -19,9 +19,9 @@ use Rattle.paraid_moves.specs.MoveMetas.{meta_with_out}
 use Rattle.paraid_txn.specs.Losses.{OnlyLosesSlots}
 use Rattle.paraid_session.specs.Powers.{FitsSlots}
 use Rattle.paraid_rebuild.specs.Replacing.{IsReplacedFrom, OnlyLosesBut}
-use Rattle.paraid_shift.specs.Serving.{AreAllLarge}
+use Rattle.paraid_event.specs.CoreServing.{AreAllLarge}
 use Rattle.paraid_shift.proofs.FitsLemmas.{IsAbsentOut, fits_kept, here_of, power_same}
-use Rattle.paraid_shift.proofs.ServingLemmas.{none_known}
+use Rattle.paraid_event.proofs.CoreServingLemmas.{none_known}
 
 -- a disk that is lost ends no shift up
 pub rises_lost : (p : Phase) → rising_to (phase_beside true p) ≡ rising_to p

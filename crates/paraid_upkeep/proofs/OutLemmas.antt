@@ -23,8 +23,8 @@ use Rattle.paraid_core.specs.Down.{IsDownAfter}
 use Rattle.paraid_core.specs.Lost.{CoreMarksLost}
 use Rattle.paraid_core.specs.Steps.{IsMarkedFrom, IsNamedOrAbsent}
 use Rattle.paraid_core.specs.Units.{IsRebuilding}
-use Rattle.paraid_shift.specs.Serving.{LeavesArray}
-use Rattle.paraid_shift.proofs.ServingLemmas.{none_away, none_known, turns_lost}
+use Rattle.paraid_event.specs.CoreServing.{LeavesArray}
+use Rattle.paraid_event.proofs.CoreServingLemmas.{none_away, none_known, turns_lost}
 use Rattle.paraid_upkeep.specs.Service.{IsOutKnown}
 
 -- a disk that is gone is not being rebuilt

@@ -22,12 +22,12 @@ use Rattle.paraid_core.specs.Cores.{CanCoreServe, IsCoreReady}
 use Rattle.paraid_core.specs.Lost.{CoreMarksLost, MarksLost}
 use Rattle.paraid_core.specs.Steps.{AreUnsyncedCopied, IsMarkedFrom, OnlyPowersDisks}
 use Rattle.paraid_core.specs.PowerCalls.{AnswersPowerCall}
-use Rattle.paraid_shift.specs.Serving.{AreAllLarge, IsCoreServing, KeepsFit, LeavesArray}
+use Rattle.paraid_event.specs.CoreServing.{AreAllLarge, IsCoreServing, KeepsFit, LeavesArray}
 use Rattle.paraid_core.proofs.StepLemmas.{marked_from_setup}
 use Rattle.paraid_shift.proofs.FitsLemmas.{power_same}
 use Rattle.paraid_upkeep.proofs.FitsLemmas.{rises_lost}
 use Rattle.paraid_upkeep.proofs.ResultLemmas.{done_not_dropped}
-use Rattle.paraid_shift.proofs.ServingLemmas.{copies_kept, large_then, leaves_array_none, leaves_array_then, marked_named}
+use Rattle.paraid_event.proofs.CoreServingLemmas.{copies_kept, large_then, leaves_array_none, leaves_array_then, marked_named}
 use Rattle.paraid_upkeep.specs.Service.{IsInService, IsOutKnown, LeavesInService}
 
 -- a disk that is not out has not failed, and was not out before

@@ -55,7 +55,7 @@ use Rattle.paraid_event.proofs.StateLemmas.{ends_shift, starts_down, starts_up}
 use Rattle.paraid_event.proofs.StepLemmas.{ran_then}
 use Rattle.paraid_event.proofs.TickDownStepLemmas.{down_lost, down_turn}
 use Rattle.paraid_event.proofs.TickStepLemmas.{flipped_turn, lost_turn, move_lost, tick_state, units_turn, up_lost, up_turn}
-use Rattle.paraid_shift.specs.Serving.{HasBegunUp}
+use Rattle.paraid_shift.specs.Rising.{HasBegunUp}
 use Rattle.paraid_shift.specs.Steps.{CoreLosesInSteps, CoreStepsInEvent, EndsInSteps, EndsLosing, StepsOrWaits}
 use Rattle.paraid_shift.specs.Units.{AreUnitsDone, CountsMoved, MovesUpTo, TellsDone}
 use Rattle.paraid_shift.proofs.UnitLemmas.{done_left}

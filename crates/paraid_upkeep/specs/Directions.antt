@@ -9,7 +9,7 @@ use Rattle.paraid_record.specs.Range.{AreNextGears, allowed_spins}
 use Rattle.paraid_image.specs.Power.{PowerState}
 use Rattle.paraid_moves.specs.MoveMetas.{meta_after_begin}
 use Rattle.paraid_core.specs.Steps.{IsMarkedFrom}
-use Rattle.paraid_shift.specs.Serving.{HasBegunUp}
+use Rattle.paraid_shift.specs.Rising.{HasBegunUp}
 use Rattle.paraid_upkeep.specs.declared.asked.ShiftOutcome.{ShiftOutcome}
 use Rattle.paraid_upkeep.specs.declared.asked.Direction.{Direction}
 use Rattle.paraid_upkeep.specs.declared.asked.Direction.TheVariants.{Down, Up}

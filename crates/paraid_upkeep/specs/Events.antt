@@ -18,7 +18,7 @@ use Rattle.paraid_txn.specs.Stores.{named_of, store_rack}
 use Rattle.paraid_core.specs.declared.staged.Core.{Core}
 use Rattle.paraid_core.specs.Steps.{AreUnsyncedCopied}
 use Rattle.paraid_event.specs.Service.{IsStateOf, service_of}
-use Rattle.paraid_shift.specs.Serving.{IsCoreServing, KeepsFit}
+use Rattle.paraid_event.specs.CoreServing.{IsCoreServing, KeepsFit}
 use Rattle.paraid_upkeep.specs.declared.fault.FailFault.{FailFault}
 use Rattle.paraid_upkeep.specs.declared.fault.FailFault.TheVariants.{NoDisk as FailNoDisk, Out as FailOut}
 use Rattle.paraid_upkeep.specs.declared.fault.ReplaceFault.{ReplaceFault}

@@ -10,7 +10,7 @@ use Rattle.paraid_core.specs.CoreInvariant.{AreCopiesSynced}
 use Rattle.paraid_core.specs.Cores.{CanCoreServe, IsCoreReady}
 use Rattle.paraid_core.specs.Steps.{IsNamedOrAbsent}
 use Rattle.paraid_core.specs.Units.{IsRebuilding}
-use Rattle.paraid_shift.specs.Serving.{AreAllLarge, IsCoreServing, KeepsFit, LeavesArray}
+use Rattle.paraid_event.specs.CoreServing.{AreAllLarge, IsCoreServing, KeepsFit, LeavesArray}
 
 -- Over every rack: the core can be read and written, no plan is under way, each copy is synced, and
 -- each disk that is not out has the size of the array.

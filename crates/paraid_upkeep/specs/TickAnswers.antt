@@ -18,7 +18,7 @@ use Rattle.paraid_core.specs.declared.staged.Core.{Core}
 use Rattle.paraid_core.specs.Steps.{IsMarkedFrom}
 use Rattle.paraid_event.specs.Moving.{GoesToState}
 use Rattle.paraid_event.specs.Service.{IsStateOf, Service, service_of}
-use Rattle.paraid_shift.specs.Serving.{HasBegunUp}
+use Rattle.paraid_shift.specs.Rising.{HasBegunUp}
 use Rattle.paraid_upkeep.specs.Refusals.{IsDownRefused, IsShiftStateOf, MayGoDown, MayGoUp}
 use Rattle.paraid_upkeep.specs.declared.fault.ShiftFault.TheVariants.{Ration as Worn}
 

@@ -14,7 +14,7 @@ ghost use Rattle.paraid_upkeep.specs.Turns.{CoreGoesOn, CoreHalts, asked_answer}
 ghost use Rattle.paraid_image.specs.Power.{PowerState};
 ghost use Rattle.paraid_record.specs.Range.{IsInRange};
 ghost use Rattle.paraid_shift.specs.Parts.{CanBeginShift, KeepsContents, KeepsRack, ServesShifted};
-ghost use Rattle.paraid_shift.specs.Serving.{IsCoreServing};
+ghost use Rattle.paraid_event.specs.CoreServing.{IsCoreServing};
 ghost use Rattle.paraid_shift.specs.Steps.{CoreLosesInSteps, CoreStepsInEvent};
 ghost use Rattle.paraid_txn.specs.Losses.{AreTwoDown};
 

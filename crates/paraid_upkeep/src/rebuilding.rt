@@ -22,7 +22,7 @@ ghost use Rattle.paraid_rack.specs.declared.call.Power.TheVariants.{Spinning};
 ghost use Rattle.paraid_rack.specs.Told.{Ran};
 ghost use Rattle.paraid_record.specs.Range.{rebuild_units as units_of_rebuild};
 ghost use Rattle.paraid_session.specs.Powers.{FitsSlots};
-ghost use Rattle.paraid_shift.specs.Serving.{IsCoreServing};
+ghost use Rattle.paraid_event.specs.CoreServing.{IsCoreServing};
 ghost use Rattle.paraid_txn.specs.Losses.{AreTwoDown, IsLostNow};
 ghost use Rattle.paraid_rebuild.specs.Rebuilds.{CanRebuild};
 ghost use Rattle.paraid_txn.specs.Stores.{named_of};

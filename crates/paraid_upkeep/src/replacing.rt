@@ -11,7 +11,7 @@ ghost use Rattle.paraid_rebuild.specs.Replacing.{IsReplacedFrom, LeavesArrayBut}
 ghost use Rattle.paraid_rebuild.specs.Rebuilds.{KeepsCounts, LacksFreshDisk};
 ghost use Rattle.paraid_upkeep.specs.Events.{RefusesReplace, ServesKnown};
 ghost use Rattle.paraid_rack.specs.Told.{Extends};
-ghost use Rattle.paraid_shift.specs.Serving.{KeepsFit};
+ghost use Rattle.paraid_event.specs.CoreServing.{KeepsFit};
 
 use crate::fault::ReplaceFault;
 use paraid_base::{DiskNo, Two};

@@ -17,7 +17,7 @@ ghost use Rattle.paraid_gear.specs.declared.three_windows.Windows.{Windows as Wi
 ghost use Rattle.paraid_image.specs.Power.{PowerState};
 ghost use Rattle.paraid_machine.specs.Moves.{units_by};
 ghost use Rattle.paraid_record.specs.Range.{AreNextGears, IsInRange, allowed_spins};
-ghost use Rattle.paraid_shift.specs.Serving.{IsCoreServing};
+ghost use Rattle.paraid_event.specs.CoreServing.{IsCoreServing};
 ghost use Rattle.paraid_upkeep.specs.Events.{CommitsInTick, ServesKnown, TicksAtRest, TicksRebuild, TicksShift};
 ghost use Rattle.paraid_txn.specs.Losses.{AreTwoDown};
 

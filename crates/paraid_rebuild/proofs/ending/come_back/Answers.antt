@@ -12,8 +12,8 @@ use Rattle.paraid_txn.specs.Stores.{named_of, store_rack}
 use Rattle.paraid_core.specs.Cores.{CoreStandsFor, IsCoreHeldSinceCommit, core_down}
 use Rattle.paraid_core.specs.Units.{UnitsRebuilt}
 use Rattle.paraid_core.proofs.AfterLemmas.{handed}
-use Rattle.paraid_shift.specs.Serving.{RestsInShift}
-use Rattle.paraid_shift.proofs.ServingLemmas.{chain, chain_held, lowered, unsynced_still, copies_kept}
+use Rattle.paraid_event.specs.CoreServing.{RestsInShift}
+use Rattle.paraid_event.proofs.CoreServingLemmas.{chain, chain_held, lowered, unsynced_still, copies_kept}
 use Rattle.paraid_rebuild.proofs.ReplacingLemmas.{all_there, alone_away, alone_failed, back_well, marked_alone, marked_back, serving_again, two_marked}
 use Rattle.paraid_moves.specs.MoveMetas.{meta_with_out}
 use Rattle.paraid_record.specs.declared.meta.Setup.{Setup}
@@ -23,7 +23,7 @@ use Rattle.paraid_rebuild.proofs.ReplacementEventLemmas.{commit_told, fresh_stay
 use Rattle.paraid_rebuild.proofs.LossLemmas.{LosesBack, join_lost, tells_by}
 use Rattle.paraid_rebuild.proofs.ResultLemmas.{back_is, gone_is}
 use Rattle.paraid_rebuild.proofs.ending.come_back.Goals as goal
-use Rattle.paraid_shift.proofs.AnswerLemmas.{none_done, none_done_as}
+use Rattle.paraid_core.proofs.ErrLemmas.{none_done, none_done_as}
 use Rattle.paraid_base.specs.Log.{epoch_limit}
 
 pub rejoin-requires-clause-there : goal.rejoin-requires-clause-there

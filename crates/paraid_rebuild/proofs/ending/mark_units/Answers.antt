@@ -12,8 +12,8 @@ use Rattle.paraid_core.specs.Cores.{CoreStandsFor, IsCoreHeldSinceCommit, core_d
 use Rattle.paraid_core.specs.Steps.{IsNamedOrAbsent}
 use Rattle.paraid_core.specs.Units.{UnitsRebuilt}
 use Rattle.paraid_core.proofs.AfterLemmas.{handed}
-use Rattle.paraid_shift.specs.Serving.{RestsInShift}
-use Rattle.paraid_shift.proofs.ServingLemmas.{chain, chain_held, lowered, marked_named, unsynced_still, copies_kept}
+use Rattle.paraid_event.specs.CoreServing.{RestsInShift}
+use Rattle.paraid_event.proofs.CoreServingLemmas.{chain, chain_held, lowered, marked_named, unsynced_still, copies_kept}
 use Rattle.paraid_rebuild.proofs.ReplacingLemmas.{back_well, gone_failed, marked_back, marked_lost, serving_then, two_marked}
 use Rattle.paraid_moves.specs.MoveMetas.{meta_with_out}
 use Rattle.paraid_rack.specs.Disks.{is_present}
@@ -27,7 +27,7 @@ use Rattle.paraid_rebuild.proofs.MovedLemmas.{gone_away}
 use Rattle.paraid_rebuild.proofs.LossLemmas.{LosesMark, commit_lost, tells_by}
 use Rattle.paraid_rebuild.proofs.ResultLemmas.{back_is, gone_is}
 use Rattle.paraid_rebuild.proofs.ending.mark_units.Goals as goal
-use Rattle.paraid_shift.proofs.AnswerLemmas.{none_done, none_done_as}
+use Rattle.paraid_core.proofs.ErrLemmas.{none_done, none_done_as}
 use Rattle.paraid_base.specs.Log.{epoch_limit}
 
 pub returns-in_err-commit : goal.returns-in_err-commit

@@ -24,7 +24,7 @@ use Rattle.paraid_base.specs.States.{has_out, rebuilt_count}
 use Rattle.paraid_rack.specs.declared.call.Power.TheVariants.{Spinning}
 use Rattle.paraid_record.specs.Range.{rebuild_units}
 use Rattle.paraid_rebuild.proofs.moving.copy_units.Goals as goal
-use Rattle.paraid_shift.proofs.AnswerLemmas.{none_done, none_done_as}
+use Rattle.paraid_core.proofs.ErrLemmas.{none_done, none_done_as}
 
 pub loop-number-init : goal.loop-number-init
 loop-number-init g c =

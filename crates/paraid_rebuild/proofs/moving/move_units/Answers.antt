@@ -19,8 +19,8 @@ use Rattle.paraid_core.specs.Units.{UnitsRebuilt}
 use Rattle.paraid_core.proofs.AfterLemmas.{handed}
 use Rattle.paraid_core.proofs.OrderLemmas.{data_out}
 use Rattle.paraid_core.proofs.StepLemmas.{held_runs_then, leaves_then, marked_from_setup, runs_end, runs_then, two_then}
-use Rattle.paraid_shift.specs.Serving.{IsCoreServing}
-use Rattle.paraid_shift.proofs.ServingLemmas.{serving_left, marked_named}
+use Rattle.paraid_event.specs.CoreServing.{IsCoreServing}
+use Rattle.paraid_event.proofs.CoreServingLemmas.{serving_left, marked_named}
 use Rattle.paraid_rebuild.proofs.ReplacingLemmas.{back_well, gone_failed, gone_stays, marked_back, marked_lost}
 use Rattle.paraid_txn.specs.Uses.{EachCall}
 use Rattle.paraid_core.specs.Calls.{IsDataCall}
@@ -31,7 +31,7 @@ use Rattle.paraid_rebuild.proofs.moving.move_units.Goals as goal
 use Rattle.paraid_image.specs.Lost.{TellsLosses}
 use Rattle.paraid_rebuild.proofs.LossLemmas.{tells_later}
 use Rattle.paraid_rebuild.proofs.moving.move_units.Goals.{In_ok-settle}
-use Rattle.paraid_shift.proofs.AnswerLemmas.{none_done, none_done_as}
+use Rattle.paraid_core.proofs.ErrLemmas.{none_done, none_done_as}
 
 pub copy_units-requires : goal.copy_units-requires
 copy_units-requires g c =

@@ -22,7 +22,7 @@ use Rattle.paraid_rebuild.proofs.replaced.begin.Goals as goal
 use Rattle.paraid_base.proofs.ToldLemmas.{HasRisen-sooner}
 use Rattle.paraid_base.specs.Regions.{disk_size}
 use Rattle.paraid_base.specs.declared.state.Out.{Out}
-use Rattle.paraid_shift.proofs.AnswerLemmas.{none_done, none_done_as}
+use Rattle.paraid_core.proofs.ErrLemmas.{none_done, none_done_as}
 use Rattle.paraid_base.specs.Log.{epoch_limit}
 
 pub bring_fresh-requires : goal.bring_fresh-requires

@@ -16,7 +16,7 @@ use Rattle.paraid_core.specs.Replaced.{CoreCommitted}
 use Rattle.paraid_core.proofs.AfterLemmas.{handed}
 use Rattle.paraid_core.proofs.ChainLemmas.{ended}
 use Rattle.paraid_core.proofs.ReadsLemmas.{knows_named}
-use Rattle.paraid_shift.proofs.ServingLemmas.{chain, chain_held, marked_named, copies_kept}
+use Rattle.paraid_event.proofs.CoreServingLemmas.{chain, chain_held, marked_named, copies_kept}
 use Rattle.paraid_rebuild.proofs.ReplacingLemmas.{back_well, beside, but_lost, gone_failed, gone_settled, lost_none, marked_back, marked_lost, serving_then, two_since}
 use Rattle.paraid_moves.specs.MoveMetas.{meta_with_out}
 use Rattle.paraid_rack.specs.Disks.{is_present}
@@ -31,7 +31,7 @@ use Rattle.paraid_session.proofs.FaultLemmas.{counts_then, no_fall_counts}
 use Rattle.paraid_rebuild.proofs.CountLemmas.{attached_counts, failed_counts}
 use Rattle.paraid_rebuild.proofs.ResultLemmas.{back_is, gone_is}
 use Rattle.paraid_rebuild.proofs.replaced.bring_fresh.Goals as goal
-use Rattle.paraid_shift.proofs.AnswerLemmas.{none_done, none_done_as}
+use Rattle.paraid_core.proofs.ErrLemmas.{none_done, none_done_as}
 
 pub returns-then-not-attach : goal.returns-then-not-attach
 returns-then-not-attach g c =

@@ -10,7 +10,7 @@ use Rattle.paraid_core.specs.Cores.{CoreStandsFor, IsCoreHeld, IsCoreHeldSinceCo
 use Rattle.paraid_core.specs.Replaced.{CoreCommitted}
 use Rattle.paraid_core.proofs.ChainLemmas.{ended}
 use Rattle.paraid_core.proofs.ReadsLemmas.{knows_named}
-use Rattle.paraid_shift.proofs.ServingLemmas.{chain, chain_held, copies_kept, marked_named, unsynced_still}
+use Rattle.paraid_event.proofs.CoreServingLemmas.{chain, chain_held, copies_kept, marked_named, unsynced_still}
 use Rattle.paraid_rebuild.proofs.ReplacingLemmas.{away_marked, beside, serving_then, gone_stays, two_marked}
 use Rattle.paraid_record.specs.declared.meta.Setup.{Setup}
 use Rattle.paraid_image.specs.Mark.{meta_after_loss}
@@ -24,7 +24,7 @@ use Rattle.paraid_event.specs.Replacements.LosesReplaced.{first}
 use Rattle.paraid_rebuild.proofs.LossLemmas.{LosesBegun, commit_lost, tells_by}
 use Rattle.paraid_rebuild.proofs.replaced.commit_gone.Goals as goal
 use Rattle.paraid_txn.specs.Losses.{OnlyLosesSlots}
-use Rattle.paraid_shift.proofs.AnswerLemmas.{none_done}
+use Rattle.paraid_core.proofs.ErrLemmas.{none_done}
 use Rattle.paraid_base.specs.Log.{epoch_limit}
 
 pub returns-in_err-commit : goal.returns-in_err-commit

@@ -16,7 +16,7 @@ use Rattle.paraid_core.specs.Units.{UnitsRebuilt, IsRebuilding}
 use Rattle.paraid_core.proofs.AfterLemmas.{handed}
 use Rattle.paraid_core.proofs.StepLemmas.{held_runs_then, runs_then, two_then, marked_from_setup}
 use Rattle.paraid_core.proofs.UnitCopyLemmas.{units_begin}
-use Rattle.paraid_shift.specs.Serving.{RestsInShift}
+use Rattle.paraid_event.specs.CoreServing.{RestsInShift}
 use Rattle.paraid_image.specs.Out.{named_out}
 use Rattle.paraid_rack.specs.Trail.{now}
 use Rattle.paraid_record.specs.declared.meta.Setup.{Setup}
@@ -32,7 +32,7 @@ use Rattle.paraid_rack.specs.Told.{CrashTriple, Ran}
 use Rattle.paraid_event.specs.Steps.{StepsInEvent}
 use Rattle.paraid_record.specs.Range.{rebuild_units}
 use Rattle.paraid_rebuild.proofs.stepping.advance.Goals as goal
-use Rattle.paraid_shift.proofs.AnswerLemmas.{none_done, none_done_as}
+use Rattle.paraid_core.proofs.ErrLemmas.{none_done, none_done_as}
 use Rattle.paraid_base.specs.Log.{epoch_limit}
 
 pub returns-in_err-copied : goal.returns-in_err-copied

@@ -8,8 +8,8 @@ use Rattle.paraid_txn.specs.Losses.{OnlyLosesSlots}
 use Rattle.paraid_txn.specs.Stores.{named_of, store_rack}
 use Rattle.paraid_core.specs.Cores.{CoreStandsFor, IsCoreHeldSinceCommit, core_down}
 use Rattle.paraid_core.proofs.AfterLemmas.{handed}
-use Rattle.paraid_shift.specs.Serving.{RestsInShift}
-use Rattle.paraid_shift.proofs.ServingLemmas.{chain, chain_held, lowered, marked_named, unsynced_still, copies_kept}
+use Rattle.paraid_event.specs.CoreServing.{RestsInShift}
+use Rattle.paraid_event.proofs.CoreServingLemmas.{chain, chain_held, lowered, marked_named, unsynced_still, copies_kept}
 use Rattle.paraid_rebuild.proofs.ReplacingLemmas.{away_marked, gone_settled, gone_stays, out_down, serving_then, two_marked}
 use Rattle.paraid_base.specs.declared.state.Out.TheVariants.{Gone}
 use Rattle.paraid_rack.specs.Told.{Ran}
@@ -19,7 +19,7 @@ use Rattle.paraid_event.specs.Steps.{StepsInEvent}
 use Rattle.paraid_rebuild.proofs.ReplacementEventLemmas.{commit_steps, commit_told, gone_fresh, marked_told, same_service}
 use Rattle.paraid_rebuild.proofs.LossLemmas.{LosesSteps, commit_lost_steps, lost_same, tells_by}
 use Rattle.paraid_rebuild.proofs.stepping.commit_lost.Goals as goal
-use Rattle.paraid_shift.proofs.AnswerLemmas.{none_done}
+use Rattle.paraid_core.proofs.ErrLemmas.{none_done}
 use Rattle.paraid_base.specs.Log.{epoch_limit}
 
 pub returns-in_err-commit : goal.returns-in_err-commit

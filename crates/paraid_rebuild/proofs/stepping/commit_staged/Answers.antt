@@ -12,8 +12,8 @@ use Rattle.paraid_core.specs.Cores.{CoreStandsFor, IsCoreHeldSinceCommit, core_d
 use Rattle.paraid_core.specs.Steps.{IsNamedOrAbsent}
 use Rattle.paraid_core.proofs.MarkCellLemmas.{stripes_go_on}
 use Rattle.paraid_core.proofs.StepLemmas.{held_none, runs_none}
-use Rattle.paraid_shift.specs.Serving.{RestsInShift, StandsInShift}
-use Rattle.paraid_shift.proofs.ServingLemmas.{lowered, marked_named}
+use Rattle.paraid_event.specs.CoreServing.{RestsInShift, StandsInShift}
+use Rattle.paraid_event.proofs.CoreServingLemmas.{lowered, marked_named}
 use Rattle.paraid_rebuild.proofs.ReplacingLemmas.{back_well, gone_failed, marked_back, marked_lost, serving_then, lost_none}
 use Rattle.paraid_rack.specs.Disks.{is_present}
 use Rattle.paraid_record.specs.declared.meta.Setup.{Setup}
@@ -25,7 +25,7 @@ use Rattle.paraid_rebuild.proofs.LossLemmas.{LosesSteps, commit_lost_steps, tell
 use Rattle.paraid_rebuild.proofs.ResultLemmas.{back_is, gone_is}
 use Rattle.paraid_rebuild.proofs.stepping.commit_staged.Goals as goal
 use Rattle.std.proofs.Math.Nat.{le-add_right, le_refl}
-use Rattle.paraid_shift.proofs.AnswerLemmas.{none_done, none_done_as}
+use Rattle.paraid_core.proofs.ErrLemmas.{none_done, none_done_as}
 
 pub returns-then-is_clear : goal.returns-then-is_clear
 returns-then-is_clear g c =

@@ -13,8 +13,8 @@ use Rattle.paraid_view.proofs.TwoLemmas.{spared_then}
 use Rattle.paraid_core.specs.CoreInvariant.{HoldsBetweenCalls}
 use Rattle.paraid_core.specs.Cores.{CoreStandsFor, IsCoreHeldSinceCommit, core_down}
 use Rattle.paraid_core.proofs.AfterLemmas.{handed}
-use Rattle.paraid_shift.specs.Serving.{RestsInShift, StandsInShift}
-use Rattle.paraid_shift.proofs.ServingLemmas.{chain, chain_held}
+use Rattle.paraid_event.specs.CoreServing.{RestsInShift, StandsInShift}
+use Rattle.paraid_event.proofs.CoreServingLemmas.{chain, chain_held}
 use Rattle.paraid_rebuild.specs.Rebuilds.{ServesLater}
 use Rattle.paraid_rebuild.proofs.ReplacingLemmas.{two_since}
 use Rattle.paraid_event.specs.Service.{service_of}
@@ -28,7 +28,7 @@ use Rattle.paraid_base.specs.States.{rebuilt_count}
 use Rattle.paraid_core.specs.Units.{IsRebuilding}
 use Rattle.paraid_record.specs.Range.{rebuild_units}
 use Rattle.paraid_rebuild.proofs.stepping.go_on.Goals as goal
-use Rattle.paraid_shift.proofs.AnswerLemmas.{none_done, none_done_as}
+use Rattle.paraid_core.proofs.ErrLemmas.{none_done, none_done_as}
 
 pub returns-in_err-there : goal.returns-in_err-there
 returns-in_err-there g c =

@@ -7,15 +7,15 @@ use Rattle.paraid_txn.specs.Stores.{named_of, store_rack}
 use Rattle.paraid_view.proofs.TwoLemmas.{spared_then}
 use Rattle.paraid_core.specs.Cores.{CoreStandsFor, core_down}
 use Rattle.paraid_core.proofs.AfterLemmas.{handed}
-use Rattle.paraid_shift.specs.Serving.{RestsInShift, StandsInShift}
-use Rattle.paraid_shift.proofs.ServingLemmas.{chain, chain_held}
+use Rattle.paraid_event.specs.CoreServing.{RestsInShift, StandsInShift}
+use Rattle.paraid_event.proofs.CoreServingLemmas.{chain, chain_held}
 use Rattle.paraid_rebuild.proofs.ReplacingLemmas.{again, two_since}
 use Rattle.paraid_event.specs.Service.{service_of}
 use Rattle.paraid_rebuild.proofs.MovedLemmas.{stays_away}
 use Rattle.paraid_rebuild.proofs.StepEventLemmas.{steps_then, steps_within}
 use Rattle.paraid_rebuild.proofs.LossLemmas.{LosesSteps, lost_then, lost_within}
 use Rattle.paraid_rebuild.proofs.stepping.step.Goals as goal
-use Rattle.paraid_shift.proofs.AnswerLemmas.{none_done, none_done_as}
+use Rattle.paraid_core.proofs.ErrLemmas.{none_done, none_done_as}
 
 pub returns-in_err-moved : goal.returns-in_err-moved
 returns-in_err-moved g c =

@@ -8,11 +8,11 @@ use Rattle.paraid_base.specs.States.{gone_out}
 use Rattle.paraid_record.specs.declared.meta.Meta.{Meta}
 use Rattle.paraid_txn.specs.Losses.{OnlyLosesSlots}
 use Rattle.paraid_core.specs.Steps.{IsMarkedFrom}
-use Rattle.paraid_shift.proofs.AnswerLemmas.{none_done}
+use Rattle.paraid_core.proofs.ErrLemmas.{none_done}
 use Rattle.paraid_txn.specs.Stores.{named_of, store_rack}
 use Rattle.paraid_core.specs.Cores.{CoreStandsFor}
 use Rattle.paraid_core.specs.Fills.{Filled}
-use Rattle.paraid_shift.proofs.ServingLemmas.{array_marked, leaves_array_then, marked_version, two_array, chain, chain_held, copies_still, large_then, none_away, none_known, turns_lost, unsynced_still, copies_kept}
+use Rattle.paraid_event.proofs.CoreServingLemmas.{array_marked, leaves_array_then, marked_version, two_array, chain, chain_held, copies_still, large_then, none_away, none_known, turns_lost, unsynced_still, copies_kept}
 use Rattle.paraid_shift.proofs.PartLemmas.{spares_failed}
 use Rattle.paraid_shift.proofs.LossLemmas.{commit_is_lost, marks_lost}
 use Rattle.paraid_shift.proofs.FitsLemmas.{fits_begun_down}

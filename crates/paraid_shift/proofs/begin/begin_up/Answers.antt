@@ -1,7 +1,7 @@
 use Rattle.std.proofs.Common.{◌+◌, ℕ, ◌≡◌, ◌∙◌, refl, ap, arith, sym, inl, inr}
-use Rattle.paraid_shift.proofs.AnswerLemmas.{none_done}
+use Rattle.paraid_core.proofs.ErrLemmas.{none_done}
 use Rattle.paraid_shift.proofs.PartLemmas.{keeps_done, keeps_later, keeps_raised, keeps_spared}
-use Rattle.paraid_shift.proofs.ServingLemmas.{leaves_array_then, chain, chain_held, marked_gear, marked_then}
+use Rattle.paraid_event.proofs.CoreServingLemmas.{leaves_array_then, chain, chain_held, marked_gear, marked_then}
 use Rattle.paraid_base.specs.declared.state.Phase.{Phase}
 use Rattle.paraid_base.specs.declared.state.Phase.TheVariants.{Steady, Up}
 use Rattle.paraid_base.specs.States.{rising_to}
@@ -13,7 +13,7 @@ use Rattle.paraid_event.proofs.ShiftStepLemmas.{up_in_steps}
 use Rattle.paraid_shift.proofs.PowersLemmas.{not_fresh, rises_same, rising_same, rising_spins, turns_are_powers}
 use Rattle.paraid_shift.proofs.StepsLemmas.{core_steps_none}
 use Rattle.paraid_core.specs.Cores.{CoreStandsFor}
-use Rattle.paraid_shift.specs.Serving.{RestsInShift}
+use Rattle.paraid_event.specs.CoreServing.{RestsInShift}
 use Rattle.paraid_shift.proofs.LossLemmas.{powers_are_lost, rise_lost, up_lost}
 use Rattle.paraid_shift.proofs.FitsLemmas.{fits_begun_up}
 use Rattle.paraid_shift.proofs.begin.begin_up.Goals as goal

@@ -5,10 +5,11 @@ use Rattle.std.proofs.Common.{ℕ, ◌≡◌, ◌<◌, ◌≤◌, ap, arith, inl
 use Rattle.paraid_base.specs.States.{rising_to}
 use Rattle.paraid_record.specs.declared.meta.Meta.{Meta}
 use Rattle.paraid_core.proofs.StepLemmas.{runs_end}
-use Rattle.paraid_shift.specs.Serving.{IsComingUp, RestsInShift}
-use Rattle.paraid_shift.proofs.ServingLemmas.{chain_held, same_none, same_then, marked_gear}
+use Rattle.paraid_event.specs.CoreServing.{RestsInShift}
+use Rattle.paraid_shift.specs.Rising.{IsComingUp}
+use Rattle.paraid_event.proofs.CoreServingLemmas.{chain_held, same_none, same_then, marked_gear}
 use Rattle.paraid_core.proofs.AfterLemmas.{rise_high}
-use Rattle.paraid_shift.proofs.AnswerLemmas.{none_done}
+use Rattle.paraid_core.proofs.ErrLemmas.{none_done}
 use Rattle.paraid_shift.proofs.PartLemmas.{keeps_done, keeps_powered}
 use Rattle.paraid_shift.proofs.OutcomeLemmas.{powers_none, powers_then}
 use Rattle.paraid_shift.proofs.begin.bring_up.Goals as goal

@@ -2,7 +2,7 @@ use Rattle.std.specs.Prelude.{◌≡◌, ℕ, ◌<◌, ◌≤◌, ◌⊎◌}
 use Rattle.paraid_base.specs.States.{rising_to}
 use Rattle.paraid_txn.specs.Stores.{IsSameStore, store_rack}
 use Rattle.paraid_shift.specs.Outcomes.{PowersDisks}
-use Rattle.paraid_shift.specs.Serving.{IsComingUp}
+use Rattle.paraid_shift.specs.Rising.{IsComingUp}
 use Rattle.paraid_shift.specs.Steps.{MakesPowerCalls}
 use Rattle.paraid_shift.proofs.begin.bring_up.Given as goal
 

@@ -11,11 +11,11 @@ use Rattle.paraid_txn.specs.Stores.{store_rack}
 use Rattle.paraid_core.specs.Cores.{IsCoreHeldSinceCommit}
 use Rattle.paraid_core.specs.Fills.{Filled}
 use Rattle.paraid_core.proofs.StepLemmas.{marked_from_setup, runs_end}
-use Rattle.paraid_shift.specs.Serving.{RestsInShift}
-use Rattle.paraid_shift.proofs.ServingLemmas.{copies_kept, large_then, leaves_turned, marked_named, same_none, still_then}
+use Rattle.paraid_event.specs.CoreServing.{RestsInShift}
+use Rattle.paraid_event.proofs.CoreServingLemmas.{copies_kept, large_then, leaves_turned, marked_named, same_none, still_then}
 use Rattle.paraid_shift.proofs.begin.raise.Given.{Over}
 use Rattle.paraid_shift.proofs.PartLemmas.{keeps_failed}
-use Rattle.paraid_shift.proofs.AnswerLemmas.{none_done}
+use Rattle.paraid_core.proofs.ErrLemmas.{none_done}
 use Rattle.std.proofs.Math.Nat.{le_refl}
 use Rattle.paraid_shift.proofs.OutcomeLemmas.{powers_none}
 use Rattle.paraid_shift.proofs.LossLemmas.{spun_bears}

@@ -4,11 +4,12 @@ use Rattle.paraid_record.specs.declared.meta.Meta.{Meta}
 use Rattle.paraid_txn.specs.Stores.{store_rack}
 use Rattle.paraid_view.proofs.TwoLemmas.{spared_then}
 use Rattle.paraid_shift.proofs.PartLemmas.{spares_done, spares_failed}
-use Rattle.paraid_shift.proofs.AnswerLemmas.{none_at, none_done, none_done_if}
+use Rattle.paraid_core.proofs.ErrLemmas.{none_done, none_done_if}
+use Rattle.paraid_shift.proofs.AnswerLemmas.{none_at}
 use Rattle.paraid_core.proofs.KindLemmas.{calls_none, calls_then, data_same}
 use Rattle.paraid_core.proofs.LostMarkLemmas.{marks_none, marks_then}
 use Rattle.paraid_core.proofs.StepLemmas.{held_runs_then, leaves_none, leaves_then, runs_then, two_then}
-use Rattle.paraid_shift.specs.Serving.{RestsInShift}
+use Rattle.paraid_event.specs.CoreServing.{RestsInShift}
 use Rattle.paraid_shift.specs.Units.{are_copied_before}
 use Rattle.paraid_shift.proofs.CopiedLemmas.{copied_at, copies_more, copies_none, copies_stand, stands_from_held}
 use Rattle.paraid_shift.proofs.MovingLemmas.{clean_from, named_not, one_before}

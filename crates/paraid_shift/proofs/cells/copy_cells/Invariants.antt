@@ -2,7 +2,7 @@ use Rattle.std.specs.Prelude.{◌≡◌, ℕ, ◌<◌, ◌≤◌}
 use Rattle.paraid_core.specs.Calls.{MakesDataCalls}
 use Rattle.paraid_core.specs.Lost.{CoreMarksLost}
 use Rattle.paraid_core.specs.Steps.{LeavesCore}
-use Rattle.paraid_shift.specs.Serving.{CopiesFromRest}
+use Rattle.paraid_shift.specs.Rising.{CopiesFromRest}
 use Rattle.paraid_shift.specs.Units.{HasDirtyBefore, are_copied_before}
 use Rattle.paraid_shift.proofs.cells.copy_cells.Given as goal
 

@@ -13,13 +13,15 @@ use Rattle.paraid_core.specs.Lost.{CoreMarksLost}
 use Rattle.paraid_core.specs.Steps.{LeavesCore}
 use Rattle.std.specs.Prelude.{◌≢◌}
 use Rattle.paraid_shift.proofs.PartLemmas.{spares_done, spares_failed, spares_raised}
-use Rattle.paraid_shift.proofs.AnswerLemmas.{none_done, none_done_if, none_more}
+use Rattle.paraid_core.proofs.ErrLemmas.{none_done, none_done_if}
+use Rattle.paraid_shift.proofs.AnswerLemmas.{none_more}
 use Rattle.paraid_core.proofs.KindLemmas.{calls_then}
 use Rattle.paraid_core.proofs.LostMarkLemmas.{marks_then}
-use Rattle.paraid_shift.specs.Serving.{CopiesFromRest, IsCoreServing, IsHeldFromRest, StandsFromRest}
+use Rattle.paraid_event.specs.CoreServing.{IsCoreServing, IsHeldFromRest, StandsFromRest}
+use Rattle.paraid_shift.specs.Rising.{CopiesFromRest}
 use Rattle.paraid_shift.specs.declared.cells.Group.{Group}
 use Rattle.paraid_shift.proofs.CopiedLemmas.{copies_then, held_from_then, stands_from_held, stands_from_then, syncs_are_data}
-use Rattle.paraid_shift.proofs.ServingLemmas.{serving_left}
+use Rattle.paraid_event.proofs.CoreServingLemmas.{serving_left}
 use Rattle.paraid_shift.proofs.cells.copy_group.Given.{Over}
 use Rattle.paraid_shift.proofs.MovedLossLemmas.{copies_tell_then}
 use Rattle.paraid_shift.proofs.cells.copy_group.Goals as goal

@@ -3,7 +3,7 @@ use Rattle.std.proofs.Math.Nat.{le_refl}
 use Rattle.std.proofs.Common.{◌∙◌, refl, sym, ap, subst, arith, inl, inr}
 use Rattle.std.proofs.lemmas.Bool.{cases_eq}
 use Rattle.paraid_record.specs.declared.meta.Meta.{Meta}
-use Rattle.paraid_shift.specs.Serving.{KeepsCopied}
+use Rattle.paraid_shift.specs.Rising.{KeepsCopied}
 use Rattle.paraid_shift.specs.Units.{CoreCountsMoved, HasDirtyBefore, are_copied_before}
 use Rattle.paraid_shift.proofs.CopiedLemmas.{keeps_none, keeps_then}
 use Rattle.paraid_shift.proofs.MovingLemmas.{core_moves_same, core_moves_so, core_moves_then}

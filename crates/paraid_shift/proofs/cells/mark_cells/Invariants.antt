@@ -1,5 +1,6 @@
 use Rattle.std.specs.Prelude.{◌≡◌, ℕ}
-use Rattle.paraid_shift.specs.Serving.{IsCoreServing, KeepsCopied}
+use Rattle.paraid_event.specs.CoreServing.{IsCoreServing}
+use Rattle.paraid_shift.specs.Rising.{KeepsCopied}
 use Rattle.paraid_shift.specs.Units.{CoreCountsMoved, are_copied_before}
 use Rattle.paraid_shift.proofs.cells.mark_cells.Given as goal
 

@@ -1,6 +1,6 @@
 use Rattle.paraid_shift.proofs.CopiedLemmas.{is_before, keeps_none}
 use Rattle.paraid_shift.proofs.MovingLemmas.{clean_none_before, core_cell_moves, none_before}
-use Rattle.paraid_shift.proofs.ServingLemmas.{serving_marked}
+use Rattle.paraid_event.proofs.CoreServingLemmas.{serving_marked}
 use Rattle.paraid_shift.proofs.AnswerLemmas.{none_at}
 use Rattle.paraid_record.specs.declared.meta.Meta.{Meta}
 use Rattle.std.specs.Prelude.{true, false}

@@ -5,16 +5,17 @@ use Rattle.paraid_base.specs.declared.state.Out.TheVariants.{No}
 use Rattle.paraid_record.specs.declared.meta.Meta.{Meta}
 use Rattle.paraid_txn.specs.Stores.{store_rack}
 use Rattle.paraid_shift.proofs.PartLemmas.{spares_done, spares_raised}
-use Rattle.paraid_shift.proofs.AnswerLemmas.{none_at, none_done_if}
+use Rattle.paraid_core.proofs.ErrLemmas.{none_done_if}
+use Rattle.paraid_shift.proofs.AnswerLemmas.{none_at}
 use Rattle.paraid_core.proofs.StepLemmas.{unmarked}
 use Rattle.paraid_core.specs.Steps.{IsMarkedFrom}
-use Rattle.paraid_shift.specs.Serving.{KeepsCopied}
+use Rattle.paraid_shift.specs.Rising.{KeepsCopied}
 use Rattle.paraid_shift.specs.Units.{AreCellsDone, are_copied_before}
 use Rattle.paraid_shift.proofs.CopiedLemmas.{copies_stand, copies_then}
 use Rattle.paraid_shift.proofs.MovedLossLemmas.{copies_lose}
 use Rattle.paraid_shift.proofs.MovingLemmas.{core_moves_none, core_moves_so, core_moves_then, some_at}
 use Rattle.paraid_shift.proofs.OutcomeLemmas.{calls_marked, le_then, leaves_marked, lost_marked, named_marked, spared_marked}
-use Rattle.paraid_shift.proofs.ServingLemmas.{array_left}
+use Rattle.paraid_event.proofs.CoreServingLemmas.{array_left}
 use Rattle.paraid_shift.proofs.StepsLemmas.{copies_are_steps}
 use Rattle.paraid_shift.proofs.cells.move_group.Goals as goal
 use Rattle.paraid_base.specs.Log.{batch_room}

@@ -1,4 +1,4 @@
-use Rattle.paraid_shift.proofs.ServingLemmas.{array_marked, leaves_array_then, marked_version, two_array, chain, chain_held, copies_still, large_then, lowered, marked_steady, none_away, none_known, turns_lost, unsynced_still, copies_kept}
+use Rattle.paraid_event.proofs.CoreServingLemmas.{array_marked, leaves_array_then, marked_version, two_array, chain, chain_held, copies_still, large_then, lowered, marked_steady, none_away, none_known, turns_lost, unsynced_still, copies_kept}
 use Rattle.std.specs.Prelude.{Option, length, ◌+◌, ◌<◌, ◌^◌}
 use Rattle.std.proofs.Common.{◌≡◌, ◌∙◌, ap, subst, refl, sym, ℕ}
 use Rattle.paraid_rack.specs.Told.{Ran}
@@ -13,7 +13,7 @@ use Rattle.paraid_shift.proofs.StepsLemmas.{commit_is_marked, commit_stands, mar
 use Rattle.paraid_record.specs.declared.meta.Meta.{Meta}
 use Rattle.paraid_txn.specs.Losses.{OnlyLosesSlots}
 use Rattle.paraid_core.specs.Steps.{IsMarkedFrom}
-use Rattle.paraid_shift.proofs.AnswerLemmas.{none_done}
+use Rattle.paraid_core.proofs.ErrLemmas.{none_done}
 use Rattle.paraid_txn.specs.Stores.{named_of, store_rack}
 use Rattle.paraid_core.specs.Cores.{CoreStandsFor, IsCoreHeldSinceCommit}
 use Rattle.paraid_core.specs.Fills.{Filled}

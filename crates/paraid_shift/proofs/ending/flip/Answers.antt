@@ -10,10 +10,10 @@ use Rattle.paraid_event.specs.Service.{service_of}
 use Rattle.paraid_event.proofs.ShiftMarkLemmas.{flipped_mark}
 use Rattle.paraid_shift.proofs.PowersLemmas.{flip_steps, flipped_powers, not_fresh, parks_are_powers, phase_down, phase_up}
 use Rattle.paraid_core.specs.Cores.{CoreStandsFor}
-use Rattle.paraid_shift.proofs.AnswerLemmas.{none_done}
+use Rattle.paraid_core.proofs.ErrLemmas.{none_done}
 use Rattle.paraid_shift.proofs.PartLemmas.{keeps_done, keeps_later, keeps_raised, keeps_spared}
-use Rattle.paraid_shift.specs.Serving.{RestsInShift}
-use Rattle.paraid_shift.proofs.ServingLemmas.{chain, chain_held, leaves_array_then, marked_gear, marked_steady, marked_then}
+use Rattle.paraid_event.specs.CoreServing.{RestsInShift}
+use Rattle.paraid_event.proofs.CoreServingLemmas.{chain, chain_held, leaves_array_then, marked_gear, marked_steady, marked_then}
 use Rattle.paraid_shift.proofs.LossLemmas.{flip_lost, park_lost, powers_are_lost}
 use Rattle.paraid_record.specs.declared.meta.Setup.{Setup}
 use Rattle.paraid_core.proofs.AfterLemmas.{gear_high}

@@ -9,10 +9,10 @@ use Rattle.paraid_rack.specs.Disks.{is_present}
 use Rattle.paraid_shift.proofs.PowersLemmas.{park_is, power_calls_none, power_calls_one, powered_lost, powered_same}
 use Rattle.paraid_txn.specs.Stores.{store_rack}
 use Rattle.paraid_core.proofs.StepLemmas.{marked_from_setup, runs_end}
-use Rattle.paraid_shift.specs.Serving.{RestsInShift}
-use Rattle.paraid_shift.proofs.ServingLemmas.{copies_kept, large_then, leaves_turned, marked_named, same_none}
+use Rattle.paraid_event.specs.CoreServing.{RestsInShift}
+use Rattle.paraid_event.proofs.CoreServingLemmas.{copies_kept, large_then, leaves_turned, marked_named, same_none}
 use Rattle.paraid_shift.proofs.PartLemmas.{keeps_failed}
-use Rattle.paraid_shift.proofs.AnswerLemmas.{none_done}
+use Rattle.paraid_core.proofs.ErrLemmas.{none_done}
 use Rattle.std.proofs.Math.Nat.{le_refl}
 use Rattle.paraid_shift.proofs.OutcomeLemmas.{powers_none}
 use Rattle.paraid_shift.proofs.LossLemmas.{parked_bears}

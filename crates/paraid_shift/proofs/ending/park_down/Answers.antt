@@ -5,12 +5,12 @@ use Rattle.paraid_rack.specs.Slots.{Slot}
 use Rattle.paraid_record.specs.declared.meta.Meta.{Meta}
 use Rattle.paraid_txn.specs.Stores.{store_rack}
 use Rattle.paraid_shift.proofs.PowersLemmas.{power_calls_none, power_calls_then}
-use Rattle.paraid_shift.proofs.AnswerLemmas.{none_done}
+use Rattle.paraid_core.proofs.ErrLemmas.{none_done}
 use Rattle.paraid_shift.proofs.PartLemmas.{keeps_done, keeps_powered}
 use Rattle.paraid_shift.proofs.OutcomeLemmas.{powers_none, powers_then}
 use Rattle.paraid_core.proofs.StepLemmas.{runs_end}
-use Rattle.paraid_shift.specs.Serving.{RestsInShift}
-use Rattle.paraid_shift.proofs.ServingLemmas.{chain_held, marked_named, same_none, same_then, marked_gear, marked_steady}
+use Rattle.paraid_event.specs.CoreServing.{RestsInShift}
+use Rattle.paraid_event.proofs.CoreServingLemmas.{chain_held, marked_named, same_none, same_then, marked_gear, marked_steady}
 use Rattle.paraid_record.specs.declared.meta.Setup.{Setup}
 use Rattle.paraid_shift.proofs.ending.park_down.Goals as goal
 

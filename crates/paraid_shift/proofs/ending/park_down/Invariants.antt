@@ -3,7 +3,7 @@ use Rattle.paraid_image.specs.Out.{named_out}
 use Rattle.paraid_rack.specs.declared.call.Power.TheVariants.{Parked}
 use Rattle.paraid_txn.specs.Stores.{IsSameStore, store_rack}
 use Rattle.paraid_shift.specs.Outcomes.{PowersDisks}
-use Rattle.paraid_shift.specs.Serving.{IsCoreServing}
+use Rattle.paraid_event.specs.CoreServing.{IsCoreServing}
 use Rattle.paraid_shift.specs.Steps.{MakesPowerCalls}
 use Rattle.paraid_shift.proofs.ending.park_down.Given as goal
 

@@ -1,10 +1,10 @@
 use Rattle.std.proofs.Common.{◌+◌, ◌∙◌}
 use Rattle.paraid_shift.proofs.PartLemmas.{spares_failed}
-use Rattle.paraid_shift.proofs.AnswerLemmas.{none_done}
+use Rattle.paraid_core.proofs.ErrLemmas.{none_done}
 use Rattle.paraid_txn.specs.Stores.{store_rack}
 use Rattle.paraid_shift.proofs.MovedLossLemmas.{commit_loses_both, commit_loses_step}
 use Rattle.paraid_shift.proofs.MovingLemmas.{core_moves_none}
-use Rattle.paraid_shift.proofs.ServingLemmas.{copies_still, large_then, marked_named, marked_version, turns_lost}
+use Rattle.paraid_event.proofs.CoreServingLemmas.{copies_still, large_then, marked_named, marked_version, turns_lost}
 use Rattle.paraid_shift.proofs.StepsLemmas.{commit_is_marked, commit_is_step, commit_stands}
 use Rattle.paraid_shift.proofs.moving.commit.Goals as goal
 

@@ -3,7 +3,7 @@ use Rattle.paraid_view.proofs.ValueLemmas.{ok_map}
 use Rattle.paraid_core.specs.Steps.{IsMarkedFrom}
 use Rattle.paraid_shift.proofs.MovingLemmas.{core_moves_same}
 use Rattle.paraid_shift.proofs.OutcomeLemmas.{serves_committed, serves_none, staged_none}
-use Rattle.paraid_shift.proofs.ServingLemmas.{leaves_array_none, marked_none}
+use Rattle.paraid_event.proofs.CoreServingLemmas.{leaves_array_none, marked_none}
 use Rattle.paraid_shift.proofs.StepsLemmas.{core_steps_none, core_steps_within}
 use Rattle.paraid_shift.proofs.PartLemmas.{keeps_as, keeps_done, keeps_spared}
 use Rattle.paraid_shift.specs.Outcomes.{CommitsInEvent}

@@ -2,11 +2,11 @@ use Rattle.std.specs.Prelude.{◌-◌, ◌^◌}
 use Rattle.std.proofs.Common.{ℕ, ◌+◌, ◌<◌, ◌≤◌, arith, ap, ◌∙◌}
 use Rattle.paraid_image.specs.Out.{named_out}
 use Rattle.paraid_shift.proofs.PartLemmas.{keeps_done, keeps_later, keeps_raised}
-use Rattle.paraid_shift.proofs.AnswerLemmas.{none_done, none_done_if}
+use Rattle.paraid_core.proofs.ErrLemmas.{none_done, none_done_if}
 use Rattle.paraid_shift.proofs.MovedLossLemmas.{core_loses_then, core_loses_within}
 use Rattle.paraid_shift.proofs.MovingLemmas.{moved_after}
 use Rattle.paraid_shift.proofs.OutcomeLemmas.{serves_then}
-use Rattle.paraid_shift.proofs.ServingLemmas.{leaves_array_then}
+use Rattle.paraid_event.proofs.CoreServingLemmas.{leaves_array_then}
 use Rattle.paraid_shift.proofs.StepsLemmas.{steps_or_waits_then}
 use Rattle.paraid_shift.proofs.moving.step.Goals as goal
 use Rattle.paraid_base.specs.Log.{epoch_limit}

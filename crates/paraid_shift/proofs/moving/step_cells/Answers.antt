@@ -1,8 +1,8 @@
 use Rattle.std.proofs.Common.{◌≡◌, ℕ, ◌∙◌, ◌<◌, ◌≤◌, sym, arith, inl, inr, ◌+◌}
 use Rattle.paraid_base.specs.declared.state.Out.TheVariants.{No}
 use Rattle.paraid_shift.proofs.PartLemmas.{keeps_done, keeps_stepped}
-use Rattle.paraid_shift.proofs.AnswerLemmas.{none_done_if}
-use Rattle.paraid_shift.proofs.ServingLemmas.{leaves_array_then}
+use Rattle.paraid_core.proofs.ErrLemmas.{none_done_if}
+use Rattle.paraid_event.proofs.CoreServingLemmas.{leaves_array_then}
 use Rattle.paraid_shift.proofs.MovingLemmas.{core_moves_same, core_moves_so, core_moves_then, staged_some}
 use Rattle.paraid_shift.proofs.OutcomeLemmas.{serves_none, serves_then, serves_within, staged_none}
 use Rattle.paraid_shift.proofs.StepsLemmas.{core_steps_none, core_steps_then, core_steps_within}

@@ -1,10 +1,10 @@
 use Rattle.std.proofs.Common.{◌+◌, arith}
 use Rattle.paraid_shift.proofs.PartLemmas.{keeps_done, keeps_later, keeps_raised, keeps_spared}
-use Rattle.paraid_shift.proofs.AnswerLemmas.{none_done_if}
+use Rattle.paraid_core.proofs.ErrLemmas.{none_done_if}
 use Rattle.paraid_shift.proofs.MovedLossLemmas.{core_loses_then, core_loses_within}
 use Rattle.paraid_shift.proofs.MovingLemmas.{core_moves_so, core_moves_then}
 use Rattle.paraid_shift.proofs.OutcomeLemmas.{marked_below, serves_committed, serves_group, serves_then}
-use Rattle.paraid_shift.proofs.ServingLemmas.{leaves_array_then, none_away}
+use Rattle.paraid_event.proofs.CoreServingLemmas.{leaves_array_then, none_away}
 use Rattle.paraid_shift.proofs.StepsLemmas.{core_steps_then, core_steps_within}
 use Rattle.paraid_shift.proofs.moving.step_group.Goals as goal
 

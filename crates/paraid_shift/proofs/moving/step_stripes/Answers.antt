@@ -7,14 +7,14 @@ use Rattle.paraid_base.specs.declared.state.Out.TheVariants.{No}
 use Rattle.paraid_record.specs.declared.meta.Meta.{Meta}
 use Rattle.paraid_shift.proofs.PartLemmas.{keeps_done, keeps_later, keeps_raised, keeps_spared}
 use Rattle.paraid_core.proofs.ChainLemmas.{marked_epoch}
-use Rattle.paraid_shift.proofs.AnswerLemmas.{none_done_if}
+use Rattle.paraid_core.proofs.ErrLemmas.{none_done_if}
 use Rattle.paraid_shift.specs.Units.{AreCellsDone, AreUnitsDone}
 use Rattle.paraid_txn.specs.Stores.{store_rack}
 use Rattle.paraid_shift.proofs.FitsLemmas.{fits_committed, fits_filled, fits_marked}
 use Rattle.paraid_shift.proofs.MovedLossLemmas.{marks_lose}
 use Rattle.paraid_shift.proofs.MovingLemmas.{core_moves_none, core_moves_same, core_moves_so, core_moves_then, core_stripes_move, done_committed, stripes_done}
 use Rattle.paraid_shift.proofs.OutcomeLemmas.{serves_none}
-use Rattle.paraid_shift.proofs.ServingLemmas.{leaves_array_none, leaves_array_then, none_away}
+use Rattle.paraid_event.proofs.CoreServingLemmas.{leaves_array_none, leaves_array_then, none_away}
 use Rattle.paraid_shift.proofs.StepsLemmas.{core_steps_none, core_steps_within, core_waits_within, marks_committed}
 use Rattle.paraid_shift.proofs.moving.step_stripes.Goals as goal
 use Rattle.paraid_base.specs.Log.{epoch_limit}

@@ -1,9 +1,9 @@
 use Rattle.std.proofs.Common.{◌≡◌, ℕ, ◌∙◌, ◌+◌, ◌-◌, ◌<◌, ◌≤◌, sym, arith, inl, inr}
 use Rattle.paraid_base.specs.declared.state.Out.TheVariants.{No}
 use Rattle.paraid_shift.proofs.PartLemmas.{keeps_done, keeps_raised, keeps_stepped}
-use Rattle.paraid_shift.proofs.AnswerLemmas.{none_done_if}
+use Rattle.paraid_core.proofs.ErrLemmas.{none_done_if}
 use Rattle.paraid_shift.proofs.MovedLossLemmas.{core_loses_within}
-use Rattle.paraid_shift.proofs.ServingLemmas.{leaves_array_then}
+use Rattle.paraid_event.proofs.CoreServingLemmas.{leaves_array_then}
 use Rattle.paraid_shift.proofs.MovingLemmas.{staged_some, up_to_more}
 use Rattle.paraid_shift.proofs.OutcomeLemmas.{serves_then, serves_within, staged_none}
 use Rattle.paraid_shift.proofs.StepsLemmas.{core_steps_within, steps_or_waits_then}

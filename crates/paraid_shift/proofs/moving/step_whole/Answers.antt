@@ -4,7 +4,7 @@ use Rattle.paraid_base.specs.declared.state.Out.TheVariants.{No}
 use Rattle.paraid_shift.proofs.AnswerLemmas.{if_map}
 use Rattle.paraid_shift.proofs.OutcomeLemmas.{serves_none}
 use Rattle.paraid_shift.proofs.PartLemmas.{keeps_done}
-use Rattle.paraid_shift.proofs.ServingLemmas.{leaves_array_none}
+use Rattle.paraid_event.proofs.CoreServingLemmas.{leaves_array_none}
 use Rattle.paraid_shift.proofs.StepsLemmas.{core_steps_none, core_steps_within}
 use Rattle.paraid_shift.specs.Outcomes.{StepsOn}
 use Rattle.paraid_shift.specs.Steps.{StepsOrWaits}

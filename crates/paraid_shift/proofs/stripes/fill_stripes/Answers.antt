@@ -9,12 +9,12 @@ use Rattle.paraid_core.specs.Cores.{IsCoreHeldSinceCommit, CoreStandsFor}
 use Rattle.paraid_core.specs.Fills.{Filled}
 use Rattle.paraid_core.specs.CoreInvariant.{HoldsBetweenCalls}
 use Rattle.paraid_shift.proofs.PartLemmas.{spares_done, spares_failed}
-use Rattle.paraid_shift.proofs.AnswerLemmas.{none_done, none_done_as}
+use Rattle.paraid_core.proofs.ErrLemmas.{none_done, none_done_as}
 use Rattle.paraid_shift.proofs.MovingLemmas.{named_not}
 use Rattle.paraid_core.proofs.KindLemmas.{calls_none, calls_then, data_same}
 use Rattle.paraid_core.proofs.LostMarkLemmas.{marks_none, marks_then}
 use Rattle.paraid_core.proofs.StepLemmas.{held_runs_then, leaves_none, leaves_then, runs_end, runs_none, runs_then, two_then}
-use Rattle.paraid_shift.specs.Serving.{RestsInShift}
+use Rattle.paraid_event.specs.CoreServing.{RestsInShift}
 use Rattle.paraid_image.specs.Out.{named_out}
 use Rattle.paraid_shift.proofs.MovedLossLemmas.{copies_tell_then}
 use Rattle.paraid_base.specs.Soft.{stripe_count}

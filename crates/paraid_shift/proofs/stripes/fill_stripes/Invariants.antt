@@ -7,7 +7,7 @@ use Rattle.paraid_core.specs.Lost.{CoreMarksLost}
 use Rattle.paraid_core.specs.Cores.{IsCoreHeldSinceCommit}
 use Rattle.paraid_core.specs.Fills.{Filled}
 use Rattle.paraid_core.specs.Steps.{LeavesCore}
-use Rattle.paraid_shift.specs.Serving.{RestsInShift}
+use Rattle.paraid_event.specs.CoreServing.{RestsInShift}
 use Rattle.paraid_shift.proofs.stripes.fill_stripes.Given as goal
 
 -- the stripes before this one are copied

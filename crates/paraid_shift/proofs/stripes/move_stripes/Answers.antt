@@ -22,12 +22,12 @@ use Rattle.paraid_core.specs.Lost.{CoreMarksLost}
 use Rattle.paraid_core.proofs.KindLemmas.{calls_then}
 use Rattle.paraid_core.proofs.LostMarkLemmas.{marks_then}
 use Rattle.paraid_core.proofs.StepLemmas.{held_runs_then, leaves_then, marked_from_setup, runs_then, two_then, unmarked}
-use Rattle.paraid_shift.specs.Serving.{IsCoreServing, LeavesArray, RestsInShift}
+use Rattle.paraid_event.specs.CoreServing.{IsCoreServing, LeavesArray, RestsInShift}
 use Rattle.paraid_shift.proofs.CopiedLemmas.{syncs_are_data}
-use Rattle.paraid_shift.proofs.ServingLemmas.{array_left, array_marked, leaves_array_then, out_none, serving_left, serving_marked}
+use Rattle.paraid_event.proofs.CoreServingLemmas.{array_left, array_marked, leaves_array_then, out_none, serving_left, serving_marked}
 use Rattle.paraid_base.specs.declared.state.Out.{Out}
 use Rattle.paraid_base.specs.declared.state.Out.TheVariants.{Fresh, Gone, No}
-use Rattle.paraid_shift.proofs.AnswerLemmas.{none_done_if}
+use Rattle.paraid_core.proofs.ErrLemmas.{none_done_if}
 use Rattle.paraid_moves.specs.MoveMetas.{filled_to}
 use Rattle.paraid_shift.proofs.MovingLemmas.{out_stays}
 use Rattle.paraid_shift.specs.Outcomes.{MarksStripes}

@@ -13,7 +13,7 @@ use Rattle.paraid_txn.specs.Stores.{store_rack}
 use Rattle.paraid_core.proofs.AfterLemmas.{handed}
 use Rattle.paraid_upkeep.proofs.CommitLemmas.{few_none, few_on, few_one, few_then, few_within}
 use Rattle.paraid_upkeep.proofs.ResultLemmas.{none_done, none_done_if}
-use Rattle.paraid_shift.proofs.ServingLemmas.{leaves_array_none, leaves_array_then, none_away, two_array}
+use Rattle.paraid_event.proofs.CoreServingLemmas.{leaves_array_none, leaves_array_then, none_away, two_array}
 use Rattle.paraid_upkeep.proofs.ToldLemmas.{calls_none, extends_core, extends_cores, no_fall_then}
 use Rattle.paraid_upkeep.proofs.asked.ask_shift.Goals as goal
 

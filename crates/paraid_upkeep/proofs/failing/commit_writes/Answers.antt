@@ -7,7 +7,7 @@ use Rattle.paraid_core.specs.Cores.{core_down}
 use Rattle.paraid_core.proofs.AfterLemmas.{handed}
 use Rattle.paraid_upkeep.proofs.ResultLemmas.{none_done}
 use Rattle.paraid_rebuild.proofs.ReplacingLemmas.{lost_none}
-use Rattle.paraid_shift.proofs.ServingLemmas.{down_none}
+use Rattle.paraid_event.proofs.CoreServingLemmas.{down_none}
 use Rattle.paraid_upkeep.proofs.CommitLemmas.{few_none, few_one}
 use Rattle.paraid_upkeep.proofs.OutLemmas.{known_then, none_marked}
 use Rattle.paraid_upkeep.proofs.ServiceLemmas.{service_then}

@@ -6,7 +6,7 @@ use Rattle.paraid_txn.specs.Losses.{OnlyLosesSlots}
 use Rattle.paraid_txn.specs.Stores.{store_rack}
 use Rattle.paraid_core.proofs.AfterLemmas.{handed}
 use Rattle.paraid_upkeep.proofs.ResultLemmas.{none_done}
-use Rattle.paraid_shift.proofs.ServingLemmas.{copies_kept}
+use Rattle.paraid_event.proofs.CoreServingLemmas.{copies_kept}
 use Rattle.paraid_upkeep.proofs.OutLemmas.{marked_taken, gone_marked, known_gone, two_taken}
 use Rattle.paraid_upkeep.proofs.ServiceLemmas.{large_marked, service_then, unsynced_marked}
 use Rattle.paraid_upkeep.proofs.ToldLemmas.{extends_core, extends_store}

@@ -5,7 +5,7 @@ use Rattle.paraid_image.specs.Out.{named_out}
 use Rattle.paraid_record.specs.declared.meta.Meta.{Meta}
 use Rattle.paraid_record.specs.declared.meta.Setup.{Setup}
 use Rattle.paraid_core.proofs.AfterLemmas.{handed}
-use Rattle.paraid_shift.proofs.ServingLemmas.{two_array}
+use Rattle.paraid_event.proofs.CoreServingLemmas.{two_array}
 use Rattle.paraid_upkeep.specs.TickTurns.CoreComesBack.{lost}
 use Rattle.paraid_upkeep.specs.TickTurns.CoreLosesComing.{finishing, untold}
 use Rattle.paraid_upkeep.proofs.CommitLemmas.{few_later, few_none, few_then}

@@ -6,7 +6,7 @@ use Rattle.paraid_txn.specs.Stores.{store_rack}
 use Rattle.paraid_core.proofs.AfterLemmas.{handed}
 use Rattle.paraid_upkeep.proofs.ResultLemmas.{done_not_dropped, none_done, none_done_as, none_done_if}
 use Rattle.paraid_event.specs.Service.{service_of}
-use Rattle.paraid_shift.proofs.ServingLemmas.{leaves_array_then, two_array}
+use Rattle.paraid_event.proofs.CoreServingLemmas.{leaves_array_then, two_array}
 use Rattle.paraid_rebuild.proofs.LossLemmas.{lost_then}
 use Rattle.paraid_rebuild.proofs.MovedLemmas.{stays_away}
 use Rattle.paraid_rebuild.proofs.ReplacingLemmas.{again}

@@ -6,7 +6,7 @@ use Rattle.paraid_record.specs.declared.meta.Meta.{Meta}
 use Rattle.paraid_rack.specs.Disks.{is_present}
 use Rattle.paraid_txn.specs.Stores.{store_rack}
 use Rattle.paraid_event.specs.RebuildEnds.ParksBack.{fails, parks, stays}
-use Rattle.paraid_shift.proofs.ServingLemmas.{leaves_turned, marked_gear, none_known}
+use Rattle.paraid_event.proofs.CoreServingLemmas.{leaves_turned, marked_gear, none_known}
 use Rattle.paraid_upkeep.specs.Service.{IsOutKnown, LeavesInService}
 use Rattle.paraid_upkeep.proofs.OutLemmas.{known_gone, known_whole}
 use Rattle.paraid_upkeep.proofs.RebuildTurnLemmas.{core_fails, core_parks, lost_marked, park_alone}
@@ -17,7 +17,7 @@ use Rattle.paraid_core.proofs.StepLemmas.{marked_from_setup}
 use Rattle.paraid_image.specs.Power.{power_by_gear}
 use Rattle.paraid_moves.specs.MoveMetas.{meta_with_out}
 use Rattle.paraid_session.specs.Powers.{FitsSlots}
-use Rattle.paraid_shift.specs.Serving.{IsCoreServing}
+use Rattle.paraid_event.specs.CoreServing.{IsCoreServing}
 use Rattle.paraid_shift.proofs.PowersLemmas.{rises_same, rising_spins}
 use Rattle.paraid_upkeep.proofs.FitsLemmas.{fits_but, fits_turned, gear_spins, rests_parked}
 use Rattle.paraid_upkeep.proofs.rebuilding.park_back.Goals as goal

@@ -6,7 +6,7 @@ use Rattle.paraid_txn.specs.Stores.{store_rack}
 use Rattle.paraid_image.specs.Out.{named_out}
 use Rattle.paraid_record.specs.declared.meta.Meta.{Meta}
 use Rattle.paraid_core.proofs.AfterLemmas.{handed}
-use Rattle.paraid_shift.proofs.ServingLemmas.{two_array}
+use Rattle.paraid_event.proofs.CoreServingLemmas.{two_array}
 use Rattle.paraid_core.specs.Units.{IsRebuilding}
 use Rattle.paraid_record.specs.declared.meta.Setup.{Setup}
 use Rattle.paraid_upkeep.proofs.CommitLemmas.{few_later, few_then, few_within}

@@ -8,7 +8,7 @@ use Rattle.paraid_base.specs.Told.{HasRisen}
 use Rattle.paraid_record.specs.declared.meta.Meta.{Meta}
 use Rattle.paraid_txn.specs.Stores.{named_of, store_rack}
 use Rattle.paraid_core.proofs.AfterLemmas.{handed}
-use Rattle.paraid_shift.proofs.ServingLemmas.{leaves_array_none}
+use Rattle.paraid_event.proofs.CoreServingLemmas.{leaves_array_none}
 use Rattle.paraid_upkeep.specs.TickAnswers.{TellsRebuild}
 use Rattle.paraid_upkeep.proofs.MoveLemmas.{few_commits, none_commits}
 use Rattle.paraid_upkeep.proofs.ResultLemmas.{if_err, if_known, if_ok, none_done, none_done_if, on_ok}

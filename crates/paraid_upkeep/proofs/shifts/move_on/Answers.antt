@@ -6,7 +6,7 @@ use Rattle.paraid_upkeep.proofs.ResultLemmas.{none_done, none_done_if}
 use Rattle.paraid_event.specs.Service.{service_of}
 use Rattle.paraid_event.proofs.TickStepLemmas.{no_name}
 use Rattle.paraid_shift.specs.Units.{TellsDone}
-use Rattle.paraid_shift.proofs.ServingLemmas.{leaves_array_then, none_away, two_array}
+use Rattle.paraid_event.proofs.CoreServingLemmas.{leaves_array_then, none_away, two_array}
 use Rattle.paraid_upkeep.proofs.MoveLemmas.{ends_commits, flipped_moves, lost_moves, moving_moves, units_commits}
 use Rattle.paraid_upkeep.proofs.OutLemmas.{known_gone, known_whole}
 use Rattle.paraid_upkeep.proofs.TickTurnLemmas.{flip_halts, flipped_told, known_marked, lost_told, moved_gone, moved_shifts, moving_told, step_halts}

@@ -12,7 +12,7 @@ use Rattle.paraid_record.specs.declared.meta.Meta.{Meta}
 use Rattle.paraid_dirty.specs.Table.{is_dirty}
 use Rattle.paraid_gear.specs.ThreeWindows.{lengths_of}
 use Rattle.paraid_scrub.specs.Counts.{no_faults}
-use Rattle.paraid_shift.proofs.ServingLemmas.{copies_kept}
+use Rattle.paraid_event.proofs.CoreServingLemmas.{copies_kept}
 use Rattle.paraid_core.specs.Cores.{core_rack}
 use Rattle.paraid_rack.specs.Trail.{now}
 use Rattle.paraid_scrub.specs.Cores.{core_view, table_view}

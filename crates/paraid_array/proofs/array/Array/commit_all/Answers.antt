@@ -11,7 +11,7 @@ use Rattle.paraid_base.specs.declared.fault.Halt.TheVariants.{Two as HaltTwo}
 use Rattle.paraid_record.specs.declared.meta.Meta.{Meta}
 use Rattle.paraid_dirty.specs.Table.{is_dirty}
 use Rattle.paraid_gear.specs.ThreeWindows.{lengths_of}
-use Rattle.paraid_shift.proofs.ServingLemmas.{copies_kept}
+use Rattle.paraid_event.proofs.CoreServingLemmas.{copies_kept}
 use Rattle.paraid_array.proofs.CoreLemmas.{serving_then, tells_by_down}
 use Rattle.paraid_array.proofs.FlushLemmas.{flush_lost, flush_on}
 use Rattle.paraid_array.proofs.StandLemmas.{end_by}

@@ -17,7 +17,7 @@ use Rattle.paraid_base.specs.declared.fault.Halt.TheVariants.{Two as HaltTwo}
 use Rattle.paraid_record.specs.declared.meta.Meta.{Meta}
 use Rattle.paraid_gear.specs.ThreeWindows.{lengths_of, sample_of}
 use Rattle.paraid_core.specs.Room.{commits_first}
-use Rattle.paraid_shift.proofs.ServingLemmas.{copies_kept}
+use Rattle.paraid_event.proofs.CoreServingLemmas.{copies_kept}
 use Rattle.paraid_array.proofs.CoreLemmas.{serving_then}
 use Rattle.paraid_array.proofs.RequestLemmas.{seen_write, write_lost, write_on}
 use Rattle.paraid_array.proofs.StandLemmas.{end_by}

@@ -33,7 +33,7 @@ use Rattle.paraid_core.specs.Steps.{AreUnsyncedCopied, IsMarkedFrom, IsNamedOrAb
 use Rattle.paraid_core.proofs.AfterLemmas.{marked_writes}
 use Rattle.paraid_core.proofs.ChainLemmas.{keeps_low}
 use Rattle.paraid_core.proofs.StepLemmas.{marked_from_setup}
-use Rattle.paraid_shift.specs.Serving.{AreAllLarge, IsCoreServing, LeavesArray, RestsInShift}
+use Rattle.paraid_event.specs.CoreServing.{AreAllLarge, IsCoreServing, LeavesArray, RestsInShift}
 
 -- the disk that was out is out still
 pub marked_named : (a b : Meta) → IsMarkedFrom a b → (x : ℕ) → named_out a.out ≡ Some x → named_out b.out ≡ Some x

@@ -1,10 +1,7 @@
 -- A core between two events, and what an event leaves of it.
-use Rattle.std.specs.Prelude.{◌≡◌, ◌≢◌, ℕ, ◌+◌, ◌<◌, ◌≤◌, ◌⊎◌, Bool, false, List, [], Option, Some, slice_index}
-use Rattle.paraid_base.specs.declared.state.Phase.TheVariants.{Up}
+use Rattle.std.specs.Prelude.{◌≡◌, ◌≢◌, ℕ, ◌<◌, ◌≤◌, false, [], Option, Some}
 use Rattle.paraid_base.specs.History.{History}
 use Rattle.paraid_base.specs.Regions.{disk_size}
-use Rattle.paraid_moves.specs.MoveMetas.{meta_after_begin}
-use Rattle.paraid_rack.specs.declared.call.Power.TheVariants.{Spinning}
 use Rattle.paraid_rack.specs.Disks.{Disks}
 use Rattle.paraid_rack.specs.Slots.{Slot}
 use Rattle.paraid_rack.specs.Told.{CrashTriple, Ran}
@@ -12,14 +9,14 @@ use Rattle.paraid_rack.specs.Trail.{Trail}
 use Rattle.paraid_record.specs.declared.meta.Meta.{Meta}
 use Rattle.paraid_image.specs.Out.{named_out}
 use Rattle.paraid_session.specs.Powers.{FitsSlots}
-use Rattle.paraid_txn.specs.Stores.{named_of, store_rack}
+use Rattle.paraid_txn.specs.Stores.{store_rack}
 use Rattle.paraid_core.specs.declared.staged.Core.{Core}
 use Rattle.paraid_core.specs.CellCopies.{CellsCopied}
 use Rattle.paraid_core.specs.CoreInvariant.{AreCopiesSynced}
 use Rattle.paraid_core.specs.Cores.{CanCoreServe, CoreStandsFor, IsCoreHeldSinceCommit, IsCoreReady, core_down}
 use Rattle.paraid_core.specs.Down.{IsDownAfter}
 use Rattle.paraid_core.specs.Fills.{Filled}
-use Rattle.paraid_core.specs.Steps.{AreUnsyncedCopied, IsMarkedFrom, IsStillOut, OnlyPowersDisks}
+use Rattle.paraid_core.specs.Steps.{AreUnsyncedCopied, OnlyPowersDisks}
 
 -- each disk of the array that is not out has the size of the array
 abbrev pub AreAllLarge : (ℕ → Slot) → Meta → Type 0
@@ -35,19 +32,6 @@ pub record IsCoreServing
   pub copies_synced : AreCopiesSynced core.meta.setup.geometry.disks core.copied
   pub unsynced : AreUnsyncedCopied slot core
   pub large : AreAllLarge (slot (store_rack core.store)) core.meta
-
--- The same with nothing staged, while the disks below `end` have come up in a shift up.
-pub record IsComingUp {R : Type 0}
-    {g : _} (count : R → ℕ) (slot : R → ℕ → Slot) (core : Core R g) (end : ℕ) : Type 0 where
-  pub ready : IsCoreReady count slot core
-  pub still : IsStillOut (named_of core.store) core.meta
-  pub up : (d : ℕ) → d < end
-      → named_out core.meta.out ≢ Some d → (slot (store_rack core.store) d).power ≡ Spinning
-  pub draft : core.draft ≡ []
-  pub copies_synced : AreCopiesSynced core.meta.setup.geometry.disks core.copied
-  pub unsynced : AreUnsyncedCopied slot core
-  pub large : AreAllLarge (slot (store_rack core.store)) core.meta
-  pub nothing : core.batch ≡ []
 
 -- What a call leaves beside that: the array, how its meta is spelled and the number of its writes
 -- are as they were, and a disk that is down was so before, or has failed.
@@ -83,13 +67,6 @@ StaysAtRest count told old new = (h : History) (lo : ℕ) → Ran (told (store_r
     (told (store_rack new.store)) (CrashTriple (IsCoreHeldSinceCommit count old h lo)
     (RestsInShift count old h lo) (RestsInShift count new h lo))
 
--- Each stop leaves what it left before, from such a rest on.
-abbrev pub IsHeldFromRest : {R : Type 0} {g : _}
-    → (R → ℕ) → (R → Option Trail) → Core R g → Core R g → Type 0
-IsHeldFromRest count told old new = (h : History) (lo : ℕ) → Ran (told (store_rack old.store))
-    (told (store_rack new.store)) (CrashTriple (IsCoreHeldSinceCommit count old h lo)
-    (RestsInShift count old h lo) (IsCoreHeldSinceCommit count old h lo))
-
 -- From such a rest on the writes are as they were.
 abbrev pub StandsFromRest : {R : Type 0} {g : _}
     → (R → ℕ) → (R → Option Trail) → Core R g → Core R g → Type 0
@@ -97,19 +74,12 @@ StandsFromRest count told old new = (h : History) (lo : ℕ) → Ran (told (stor
     (told (store_rack new.store)) (CrashTriple (IsCoreHeldSinceCommit count old h lo)
     (RestsInShift count old h lo) (CoreStandsFor count new h lo))
 
--- From such a rest on these cells are copied.
-abbrev pub CopiesFromRest : {R : Type 0} {g : _}
-    → (R → ℕ) → (R → Option Trail) → Core R g → Core R g → (ℕ → ℕ → Bool) → Type 0
-CopiesFromRest count told old new cells = (h : History) (lo : ℕ) → Ran (told (store_rack old.store))
+-- Each stop leaves what it left before, from such a rest on.
+abbrev pub IsHeldFromRest : {R : Type 0} {g : _}
+    → (R → ℕ) → (R → Option Trail) → Core R g → Core R g → Type 0
+IsHeldFromRest count told old new = (h : History) (lo : ℕ) → Ran (told (store_rack old.store))
     (told (store_rack new.store)) (CrashTriple (IsCoreHeldSinceCommit count old h lo)
-    (RestsInShift count old h lo) (CellsCopied count new h lo cells))
-
--- These cells are copied still.
-abbrev pub KeepsCopied : {R : Type 0} {g : _}
-    → (R → ℕ) → (R → Option Trail) → Core R g → Core R g → (ℕ → ℕ → Bool) → Type 0
-KeepsCopied count told old new cells = (h : History) (lo : ℕ) → Ran (told (store_rack old.store))
-    (told (store_rack new.store)) (CrashTriple (IsCoreHeldSinceCommit count old h lo)
-    (CellsCopied count old h lo cells) (CellsCopied count new h lo cells))
+    (RestsInShift count old h lo) (IsCoreHeldSinceCommit count old h lo))
 
 -- the same from a core that may have something staged
 abbrev pub IsHeldInShift : {R : Type 0} {g : _}
@@ -117,11 +87,3 @@ abbrev pub IsHeldInShift : {R : Type 0} {g : _}
 IsHeldInShift count told old new = (h : History) (lo : ℕ) → Ran (told (store_rack old.store))
     (told (store_rack new.store)) (CrashTriple (IsCoreHeldSinceCommit count old h lo)
     (StandsInShift count old h lo) (IsCoreHeldSinceCommit count old h lo))
-
--- A shift up to gear `to` has begun, by a commit, with a spin-up counted for each disk that comes
--- up; a disk may be lost in it.
-pub record HasBegunUp (old new : Meta) (to : ℕ) : Type 0 where
-  pub spins : List ℕ
-  pub is : IsMarkedFrom (record (meta_after_begin old (Up to) spins) { epoch = old.epoch + 1 }) new
-  pub raised : (d : ℕ) → old.gear ≤ d → d < to → slice_index spins d ≡ slice_index old.spins d + 1
-  pub others : (d : ℕ) → (d < old.gear) ⊎ (to ≤ d) → slice_index spins d ≡ slice_index old.spins d
