@@ -13,7 +13,7 @@ use Rattle.paraid_record.specs.declared.meta.Meta.{Meta}
 use Rattle.paraid_image.specs.Calls.{disk_of, is_done}
 use Rattle.paraid_core.specs.Calls.{IsDataCall}
 use Rattle.paraid_core.proofs.CallLemmas.{keeps_held}
-use Rattle.paraid_session.specs.Watch.{Bounds, Down, Each, HoldsWhileServing, IsAllowed, IsAmongDown, IsServing, Watch, fails_on, first_lost, nobody, only, several, watch_all}
+use Rattle.paraid_session.specs.Watch.{Bounds, Down, Each, HoldsWhileServing, IsAllowed, IsAmongDown, IsServing, Watch, first_lost, nobody, only, several, watch_all}
 use Rattle.paraid_session.proofs.LayerLemmas.{absent_failed, fails_first, first_fails}
 use Rattle.paraid_recover.proofs.BaseLemmas.{each_append}
 use Rattle.paraid_recover.proofs.DownLemmas.{watched_disks}
@@ -31,7 +31,7 @@ use Rattle.paraid_event.specs.Stands.{IsMidway, ServiceStandsFor}
 use Rattle.paraid_event.specs.Steps.{AreStepCalls, GoesInSteps, IsOnly, IsUnderway, LeavesService, LosesInSteps, LosesShown, ServesShown, StepsInEvent, made_by}
 use Rattle.paraid_event.proofs.BeginLemmas.{first_append}
 use Rattle.paraid_event.proofs.ChainLemmas.{data_within, transfer_each}
-use Rattle.paraid_event.proofs.EndLemmas.{fails_tail, only_serving}
+use Rattle.paraid_event.proofs.EndLemmas.{only_serving}
 use Rattle.paraid_event.proofs.LastCallLemmas.{alone_named}
 use Rattle.paraid_image.proofs.LostLemmas.{ends_later}
 use Rattle.paraid_event.proofs.FailLemmas.{attach_append, fails_append, watch_append}

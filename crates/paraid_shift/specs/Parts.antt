@@ -1,6 +1,6 @@
 -- What a call of a core in a shift asks for, and what it leaves whatever becomes of it, over the
 -- members of its rack.
-use Rattle.std.specs.Prelude.{◌≡◌, ℕ, ◌<◌, ◌≤◌, ◌^◌, false, [], Result, OnOk, IfErr}
+use Rattle.std.specs.Prelude.{◌≡◌, ℕ, ◌<◌, ◌≤◌, false, [], Result, OnOk, IfErr}
 use Rattle.paraid_base.specs.declared.fault.Two.{Two}
 use Rattle.paraid_base.specs.declared.state.Out.TheVariants.{No}
 use Rattle.paraid_base.specs.declared.state.Phase.TheVariants.{Steady}

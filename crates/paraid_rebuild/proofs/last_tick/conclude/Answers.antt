@@ -1,4 +1,4 @@
-use Rattle.std.specs.Prelude.{ℕ, ◌+◌, false, ◌<◌, [], None, Some, List, ◌≤◌, ◌^◌, true, Ok}
+use Rattle.std.specs.Prelude.{ℕ, ◌+◌, false, ◌<◌, [], None, Some, List, ◌≤◌, true, Ok}
 use Rattle.std.proofs.Common.{◌≡◌, ◌∙◌, sym, ap, subst, arith, inl, Ok}
 use Rattle.paraid_base.proofs.ToldLemmas.{HasRisen-sooner}
 use Rattle.paraid_base.specs.declared.state.Out.TheVariants.{No, Fresh}
@@ -30,7 +30,7 @@ use Rattle.paraid_rebuild.specs.Rebuilds.{HasCommitted, ServesLater}
 use Rattle.paraid_rebuild.proofs.LossLemmas.{LosesEnding, copies_lost_steps}
 use Rattle.paraid_rebuild.proofs.ReplacementEventLemmas.{named_there}
 use Rattle.paraid_rebuild.proofs.StepEventLemmas.{copies_both, copies_step, fresh_low, gone_told, same_told}
-use Rattle.paraid_rebuild.proofs.ResultLemmas.{err_map, on_all, on_at, on_both, no_earlier, on_map, one_later}
+use Rattle.paraid_rebuild.proofs.ResultLemmas.{err_map, on_at, on_both, no_earlier, on_map, one_later}
 use Rattle.paraid_base.specs.History.{History}
 use Rattle.paraid_rack.specs.Told.{CrashTriple, Ran}
 use Rattle.paraid_rebuild.proofs.last_tick.conclude.Goals as goal

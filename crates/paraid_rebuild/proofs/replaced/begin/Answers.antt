@@ -1,4 +1,4 @@
-use Rattle.std.specs.Prelude.{length, List, ◌+◌, ◌<◌, ◌^◌}
+use Rattle.std.specs.Prelude.{length, List, ◌+◌, ◌<◌}
 use Rattle.std.proofs.Common.{◌≡◌, ◌∙◌, ap, sym, ℕ, Option, Some, inl, inr, subst}
 use Rattle.paraid_base.specs.declared.state.Out.TheVariants.{Fresh, Gone}
 use Rattle.paraid_image.specs.Out.{named_out, or_else}

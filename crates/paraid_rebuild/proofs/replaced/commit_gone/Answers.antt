@@ -1,4 +1,4 @@
-use Rattle.std.specs.Prelude.{length, slice_index, Some, ◌<◌, ◌^◌, List, ◌+◌}
+use Rattle.std.specs.Prelude.{length, slice_index, Some, ◌<◌, List, ◌+◌}
 use Rattle.std.proofs.Common.{◌≡◌, ◌∙◌, ◌<◌, ap, subst, sym, refl, ℕ}
 use Rattle.paraid_base.specs.declared.state.Out.{Out}
 use Rattle.paraid_base.specs.declared.state.Out.TheVariants.{Gone}

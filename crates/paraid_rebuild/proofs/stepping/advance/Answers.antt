@@ -1,4 +1,4 @@
-use Rattle.std.specs.Prelude.{ℕ, ◌+◌, false, ◌<◌, [], Some, List, ◌≤◌, ◌^◌, true, Ok}
+use Rattle.std.specs.Prelude.{ℕ, ◌+◌, false, ◌<◌, [], Some, List, ◌≤◌, true, Ok}
 use Rattle.std.proofs.Common.{◌≡◌, ◌∙◌, sym, ap, subst, arith, Ok}
 use Rattle.paraid_base.proofs.ToldLemmas.{HasRisen-sooner}
 use Rattle.paraid_base.specs.declared.state.Out.TheVariants.{Fresh}
@@ -26,7 +26,7 @@ use Rattle.paraid_rebuild.specs.Rebuilds.{HasCommitted, ServesLater}
 use Rattle.paraid_rebuild.proofs.ReplacementEventLemmas.{named_there}
 use Rattle.paraid_rebuild.proofs.StepEventLemmas.{copies_committed, copies_step, fresh_low, gone_told, same_told, steps_within, copies_lost}
 use Rattle.paraid_rebuild.proofs.LossLemmas.{LosesSteps, copies_lost_steps, lost_within}
-use Rattle.paraid_rebuild.proofs.ResultLemmas.{err_map, on_all, on_at, on_both, on_map, no_earlier, one_later}
+use Rattle.paraid_rebuild.proofs.ResultLemmas.{err_map, on_at, on_both, on_map, no_earlier, one_later}
 use Rattle.paraid_base.specs.History.{History}
 use Rattle.paraid_rack.specs.Told.{CrashTriple, Ran}
 use Rattle.paraid_event.specs.Steps.{StepsInEvent}

@@ -1,4 +1,4 @@
-use Rattle.std.specs.Prelude.{◌+◌, Some, ◌<◌, ◌^◌}
+use Rattle.std.specs.Prelude.{◌+◌, Some, ◌<◌}
 use Rattle.std.proofs.Common.{◌≡◌, ◌∙◌, sym, ap, subst, ℕ}
 use Rattle.paraid_base.specs.States.{gone_out}
 use Rattle.paraid_core.proofs.KindLemmas.{gone_named}

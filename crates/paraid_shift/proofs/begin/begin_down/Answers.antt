@@ -3,7 +3,7 @@ use Rattle.paraid_image.specs.Power.{power_by_gear}
 use Rattle.paraid_event.specs.Service.{service_of}
 use Rattle.paraid_event.proofs.ShiftMarkLemmas.{down_mark, down_powers}
 use Rattle.paraid_shift.proofs.StepsLemmas.{commit_is_marked, commit_stands, core_steps_none, marks_committed, marks_wait}
-use Rattle.std.specs.Prelude.{length, ◌+◌, ◌<◌, ◌^◌}
+use Rattle.std.specs.Prelude.{length, ◌+◌, ◌<◌}
 use Rattle.paraid_base.specs.States.{gone_out}
 use Rattle.paraid_record.specs.declared.meta.Meta.{Meta}
 use Rattle.paraid_txn.specs.Losses.{OnlyLosesSlots}

@@ -1,5 +1,5 @@
 use Rattle.paraid_event.proofs.CoreServingLemmas.{array_marked, leaves_array_then, marked_version, two_array, chain, chain_held, copies_still, large_then, lowered, marked_steady, none_away, none_known, turns_lost, unsynced_still, copies_kept}
-use Rattle.std.specs.Prelude.{Option, length, ◌+◌, ◌<◌, ◌^◌}
+use Rattle.std.specs.Prelude.{Option, length, ◌+◌, ◌<◌}
 use Rattle.std.proofs.Common.{◌≡◌, ◌∙◌, ap, subst, refl, sym, ℕ}
 use Rattle.paraid_rack.specs.Told.{Ran}
 use Rattle.paraid_rack.specs.Trail.{Trail, now}

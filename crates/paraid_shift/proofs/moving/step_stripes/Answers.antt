@@ -1,4 +1,4 @@
-use Rattle.std.specs.Prelude.{ℕ, ◌⊎◌, ◌-◌, ◌^◌, Bool, List}
+use Rattle.std.specs.Prelude.{ℕ, ◌⊎◌, ◌-◌, Bool, List}
 use Rattle.std.proofs.Common.{◌≡◌, ◌∙◌, ◌+◌, ◌<◌, ◌≤◌, ap, arith, inl, inr, refl, subst, sym}
 use Rattle.std.proofs.lemmas.Bool.{cases_eq}
 use Rattle.paraid_base.specs.Soft.{stripe_count}
