@@ -17,7 +17,7 @@ use Rattle.paraid_trace.specs.declared.asked.Asked.{Asked}
 use Rattle.paraid_upkeep.proofs.ToldLemmas.{extends_none}
 use Rattle.paraid_array.specs.declared.array.Array.{Array}
 use Rattle.paraid_array.specs.Arrays.{AnswersEvent, GoesOnByEvent, shown_of_array, told_of_array}
-use Rattle.paraid_array.specs.Checked.{answer_to_check}
+use Rattle.paraid_scrub.specs.Counts.{answer_to_check}
 
 -- what may halt the array is a line of its own, and may be answered so
 pub may_not_bad : (event : Event) → may_halt event ≡ true → event ≢ Bad

@@ -1,8 +1,5 @@
 -- What a check of an array counts, where its rack tells its record.
-use Rattle.std.specs.Prelude.{◌≡◌, ℕ, ◌+◌, ◌^◌, ◌<◌, [], Option, Some, IsSome, Result, Ok, Err}
-use Rattle.paraid_base.specs.declared.event.Answer.{Answer}
-use Rattle.paraid_base.specs.declared.event.Answer.TheVariants.{Flushed, Halted}
-use Rattle.paraid_base.specs.declared.fault.Halt.{Halt}
+use Rattle.std.specs.Prelude.{◌≡◌, ℕ, ◌+◌, ◌^◌, ◌<◌, [], Option, Some, IsSome}
 use Rattle.paraid_rack.specs.declared.call.Power.TheVariants.{Spinning}
 use Rattle.paraid_rack.specs.declared.rack.Rack.{Ghosts}
 use Rattle.paraid_rack.specs.Slots.{Slot}
@@ -20,11 +17,6 @@ use Rattle.paraid_scrub.specs.Cores.{HasMapBits, core_view, table_view}
 use Rattle.paraid_scrub.specs.Counts.{CountsByView}
 use Rattle.paraid_scrub.specs.declared.kind.CheckReport.{CheckReport}
 use Rattle.paraid_base.specs.Log.{epoch_limit}
-
--- A check is a flush of a session: the answer to that, with so many writes.
-abbrev pub answer_to_check : ℕ → Result CheckReport Halt → Answer
-answer_to_check writes (Ok report) = Flushed writes
-answer_to_check writes (Err halt) = Halted halt
 
 -- From a core with nothing staged the counts are those of its disks, with the dirty cells of the
 -- table that it serves; and with those of the map on its disks, if the table has the bits of that.

@@ -6,7 +6,7 @@ ghost use Rattle.paraid_base.specs.Log.{worn_at};
 ghost use Rattle.paraid_core.specs.Cores.{batch_of, meta_of};
 ghost use Rattle.paraid_rack.specs.Told.{Extends, Ran};
 ghost use Rattle.paraid_recover.specs.Calls.{OnlyReads};
-ghost use Rattle.paraid_scrub.specs.Counts.{AreWithinMembers, no_faults};
+ghost use Rattle.paraid_scrub.specs.Counts.{AreWithinMembers, answer_to_check, no_faults};
 ghost use Rattle.paraid_serve.specs.Causes.{HasCause};
 ghost use Rattle.paraid_session.specs.Turn.{GoesOn, Point};
 
@@ -18,7 +18,7 @@ use paraid_rack::Rack;
 use paraid_scrub::{CheckReport, check};
 
 impl<R: Rack> Array<R> {
-    ghost use Rattle.paraid_array.specs.Checked.{CountsCommitted, CountsDisks, answer_to_check};
+    ghost use Rattle.paraid_array.specs.Checked.{CountsCommitted, CountsDisks};
     ghost use Rattle.paraid_array.specs.Arrays.{AnswersEvent, ArrayStandsAt, core_of_array, end_of_array, halt_of_array, setup_of_array, shown_of_array, slots_of_array, told_of_array};
 
     // Commits all that is staged, and counts what is false.

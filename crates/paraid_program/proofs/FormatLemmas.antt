@@ -2,11 +2,11 @@
 use Rattle.std.proofs.Common.{◌≡◌, ℕ, ◌⊎◌, Bool, List, length, inl, inr}
 use Rattle.paraid_base.specs.Told.{HasRisen}
 use Rattle.paraid_serve.specs.Ending.{EndsWithLine}
-use Rattle.paraid_program.specs.Outcome.{FormatOutcome, Formats}
-use Rattle.paraid_program.specs.Outcome.FormatOutcome.{already as for_claim, config as for_config, disk as for_disk, done as made, no_memory as for_memory, source_failed as for_source}
+use Rattle.paraid_commands.specs.Outcome.{FormatOutcome, Formats}
+use Rattle.paraid_commands.specs.Outcome.FormatOutcome.{already as for_claim, config as for_config, disk as for_disk, done as made, no_memory as for_memory, source_failed as for_source}
 use Rattle.paraid_serve.specs.Uses.{RackUse, SinkUse, SourceUse}
-use Rattle.paraid_program.specs.Complete.Completes.{hindered, no_memory, whole}
-use Rattle.paraid_program.proofs.CompleteLemmas.{told_whole}
+use Rattle.paraid_commands.specs.Complete.Completes.{hindered, no_memory, whole}
+use Rattle.paraid_commands.proofs.CompleteLemmas.{told_whole}
 use Rattle.paraid_program.specs.CommandCompletes.{CompletesCommand}
 use Rattle.paraid_program.specs.CommandCompletes.HindersFormat.{claimed, config, disk, sink_failed, source_failed}
 use Rattle.paraid_words.specs.declared.command.Command.TheVariants.{Format}

@@ -8,11 +8,11 @@ use Rattle.paraid_record.specs.declared.meta.Meta.{Meta}
 use Rattle.paraid_recover.specs.Calls.{AreHeadReads}
 use Rattle.paraid_recover.specs.FormatRefusals.{IsDiskRefused}
 use Rattle.paraid_recover.specs.Found.{IsGreatest}
-use Rattle.paraid_program.specs.Counts.{check_line}
-use Rattle.paraid_program.specs.Lines.{formatted_line}
-use Rattle.paraid_program.specs.Outcome.{IsArrayMade, IsUntouched}
-use Rattle.paraid_program.specs.Reading.{IsConfigured, IsUnread}
-use Rattle.paraid_program.specs.declared.refusal.Refusal.TheVariants.{Config, Source}
+use Rattle.paraid_commands.specs.Counts.{check_line}
+use Rattle.paraid_commands.specs.Lines.{formatted_line}
+use Rattle.paraid_commands.specs.Outcome.{IsArrayMade, IsUntouched}
+use Rattle.paraid_commands.specs.Reading.{IsConfigured, IsUnread}
+use Rattle.paraid_commands.specs.declared.refusal.Refusal.TheVariants.{Config, Source}
 use Rattle.paraid_rack.specs.Told.{Ran}
 use Rattle.paraid_scrub.specs.Counts.{no_faults}
 use Rattle.paraid_serve.specs.Ending.{end_line}
@@ -20,11 +20,11 @@ use Rattle.paraid_serve.specs.Uses.{RackUse, SinkUse, SourceUse}
 use Rattle.paraid_serve.specs.Statuses.{status_already_formatted, status_config, status_disk, status_sink, status_source}
 use Rattle.paraid_record.specs.declared.meta.Setup.{Setup}
 use Rattle.paraid_recover.specs.Mount.{IsUnstarted}
-use Rattle.paraid_program.specs.Clients.{HindersNbd, IsNbdWhole}
-use Rattle.paraid_program.specs.Complete.{Completes, HeldHistory, Hinders, HindersRun, IsRunWhole, TellsLast}
-use Rattle.paraid_program.specs.PlanComes.{HindersPlan}
-use Rattle.paraid_program.specs.Showing.{IsServedBy}
-use Rattle.paraid_program.specs.States.{status_lines}
+use Rattle.paraid_commands.specs.Clients.{HindersNbd, IsNbdWhole}
+use Rattle.paraid_commands.specs.Complete.{Completes, HeldHistory, Hinders, HindersRun, IsRunWhole, TellsLast}
+use Rattle.paraid_commands.specs.PlanComes.{HindersPlan}
+use Rattle.paraid_commands.specs.Showing.{IsServedBy}
+use Rattle.paraid_commands.specs.States.{status_lines}
 use Rattle.paraid_words.specs.declared.command.Command.{Command}
 use Rattle.paraid_words.specs.declared.command.Command.TheVariants.{Format, Run, Spare, Status, Check, Gen, Nbd, Vol, Plan}
 

@@ -1,16 +1,16 @@
 -- How the program may end, over every source, sink and rack.
 use Rattle.std.specs.Prelude.{ℕ}
-use Rattle.paraid_program.specs.Outcome.{Formats}
+use Rattle.paraid_commands.specs.Outcome.{Formats}
 use Rattle.paraid_serve.specs.Uses.{RackUse, SinkUse, SourceUse}
-use Rattle.paraid_program.specs.Statuses.{check_statuses, gen_statuses, nbd_statuses, plan_statuses, run_statuses}
+use Rattle.paraid_commands.specs.Statuses.{check_statuses, gen_statuses, nbd_statuses, plan_statuses, run_statuses}
 use Rattle.paraid_serve.specs.Statuses.{IsOneOf}
-use Rattle.paraid_program.specs.Showing.{Shows}
-use Rattle.paraid_program.specs.Clients.{ServesNbdOrNot}
-use Rattle.paraid_program.specs.Planning.{PlanOutcome}
+use Rattle.paraid_commands.specs.Showing.{Shows}
+use Rattle.paraid_commands.specs.Clients.{ServesNbdOrNot}
+use Rattle.paraid_commands.specs.Planning.{PlanOutcome}
 use Rattle.paraid_sparing.specs.Session.{fresh_stock}
-use Rattle.paraid_program.specs.Spares.{ServesSpares}
-use Rattle.paraid_program.specs.Volumes.{ServesVolumes}
-use Rattle.paraid_program.specs.Ends.{ChecksArray, IsUnheard, MountsAndThen, ServesGenerated, ServesLines}
+use Rattle.paraid_commands.specs.Spares.{ServesSpares}
+use Rattle.paraid_commands.specs.Volumes.{ServesVolumes}
+use Rattle.paraid_commands.specs.Ends.{ChecksArray, IsUnheard, MountsAndThen, ServesGenerated, ServesLines}
 use Rattle.paraid_words.specs.declared.command.Command.{Command}
 use Rattle.paraid_words.specs.declared.command.Command.TheVariants.{Format, Run, Spare, Status, Check, Gen, Nbd, Vol, Plan}
 

@@ -1,9 +1,9 @@
 //! The arrays with gears that the program makes of a rack.
 ghost use Rattle.paraid_array.specs.Arrays.{HasNothingStaged, dirty_of_array, meta_of_array, slot_of_array};
 
-use crate::outside::Outside;
 use paraid_array::{Array, mount_array};
 use paraid_base::Halt;
+use paraid_commands::outside::Outside;
 use paraid_rack::Rack;
 use paraid_recover::MountRefused;
 use paraid_scrub::CheckReport;

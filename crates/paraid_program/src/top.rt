@@ -6,22 +6,16 @@ ghost use Rattle.paraid_words.specs.Words.{AskFor, usage_line};
 ghost use Rattle.paraid_program.specs.CommandCompletes.{CompletesCommand};
 ghost use Rattle.paraid_program.specs.CommandDoes.{DoesCommand, ReadsSource, TakesSource};
 ghost use Rattle.paraid_words.specs.declared.command.Command.{Command as CommandType};
-ghost use Rattle.paraid_program.specs.Racks.{rack_use};
+ghost use Rattle.paraid_commands.specs.Racks.{rack_use};
 ghost use Rattle.paraid_serve.specs.Streams.{EndsAtFaults, sink_use, source_use};
 ghost use Rattle.paraid_serve.specs.Statuses.{status_done, status_sink, status_source, status_words};
 
 use crate::arrays::Arrays;
-use crate::check_command::check;
-use crate::format_command::format_array;
-use crate::gen_command::generate;
-use crate::nbd_command::nbd;
-use crate::outside::ProgramEnd;
-use crate::plan_command::show_plan;
-use crate::run_command::run;
-use crate::spares_command::run_with_spares;
-use crate::status_command::show_state;
-use crate::vol_command::answer_volumes;
 use paraid_array::Array;
+use paraid_commands::{
+    ProgramEnd, answer_volumes, check, format_array, generate, nbd, run, run_with_spares,
+    show_plan, show_state,
+};
 use paraid_io::{Sink, Source};
 use paraid_rack::Rack;
 use paraid_serve::ending::last;

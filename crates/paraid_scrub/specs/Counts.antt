@@ -1,5 +1,8 @@
 -- What a check counts of an image.
-use Rattle.std.specs.Prelude.{◌≡◌, ◌≢◌, ℕ, ◌+◌, ◌-◌, ◌<◌, ◌≤◌, ◌⊎◌, min, nat_le, Bool, true, false, if◌then◌else◌, Option, Some, None}
+use Rattle.std.specs.Prelude.{◌≡◌, ◌≢◌, ℕ, ◌+◌, ◌-◌, ◌<◌, ◌≤◌, ◌⊎◌, min, nat_le, Bool, true, false, if◌then◌else◌, Option, Some, None, Result, Ok, Err}
+use Rattle.paraid_base.specs.declared.event.Answer.{Answer}
+use Rattle.paraid_base.specs.declared.event.Answer.TheVariants.{Flushed, Halted}
+use Rattle.paraid_base.specs.declared.fault.Halt.{Halt}
 use Rattle.paraid_base.specs.Log.{map_block_place}
 use Rattle.paraid_base.specs.Regions.{hard_place_of, map_count}
 use Rattle.paraid_base.specs.Soft.{soft_disk, soft_stripe, stripe_count}
@@ -128,3 +131,8 @@ pub record AreWithinMembers (m : Meta) (report : CheckReport) : Type 0 where
   pub fill : report.fill ≤ total m (named_out m.out) Fill
   pub units : report.units ≤ total m (named_out m.out) RebuiltUnit
   pub mirrors : report.mirrors ≤ total m (named_out m.out) Mirror
+
+-- A check is a flush of a session: the answer to that, with so many writes.
+abbrev pub answer_to_check : ℕ → Result CheckReport Halt → Answer
+answer_to_check writes (Ok report) = Flushed writes
+answer_to_check writes (Err halt) = Halted halt

@@ -32,11 +32,11 @@ use Rattle.paraid_serve.specs.Stretch.{span_of}
 use Rattle.paraid_serve.specs.Ending.{EndsWithLine}
 use Rattle.paraid_serve.specs.Uses.{RackUse, SinkUse, SourceUse}
 use Rattle.paraid_memrack.specs.Rules.{no_disks}
-use Rattle.paraid_program.specs.Ends.{MountsAndThen, ServesLines}
-use Rattle.paraid_program.specs.Ends.MountsAndThen.{refused, mounted}
-use Rattle.paraid_program.specs.Outcome.{BecomesEmpty, FormatOutcome, Formats, IsArrayMade, IsEmptyArray}
-use Rattle.paraid_program.specs.Outcome.FormatOutcome.{done as format_done, source_failed as format_source, no_memory, config, already, disk}
-use Rattle.paraid_program.specs.MountFaults.{mount_fault_status}
+use Rattle.paraid_commands.specs.Ends.{MountsAndThen, ServesLines}
+use Rattle.paraid_commands.specs.Ends.MountsAndThen.{refused, mounted}
+use Rattle.paraid_commands.specs.Outcome.{BecomesEmpty, FormatOutcome, Formats, IsArrayMade, IsEmptyArray}
+use Rattle.paraid_commands.specs.Outcome.FormatOutcome.{done as format_done, source_failed as format_source, no_memory, config, already, disk}
+use Rattle.paraid_commands.specs.MountFaults.{mount_fault_status}
 use Rattle.tests_lives.specs.Life.{RunAnswers, IsLife, is_done_or_on, said_first}
 
 -- what is promised of a result that is there

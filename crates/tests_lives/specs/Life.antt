@@ -15,8 +15,8 @@ use Rattle.paraid_session.specs.Turn.{Point}
 use Rattle.paraid_serve.specs.Ending.{end_line}
 use Rattle.paraid_serve.specs.Output.{FollowsFromPoint, begins_with}
 use Rattle.paraid_serve.specs.Stretch.{EndsStretch, span_of, events_in, replies}
-use Rattle.paraid_program.specs.Ends.{BeginsAt}
-use Rattle.paraid_program.specs.Outcome.{IsEmptyArray}
+use Rattle.paraid_commands.specs.Ends.{BeginsAt}
+use Rattle.paraid_commands.specs.Outcome.{IsEmptyArray}
 
 -- a call was done, or is on this disk
 abbrev pub is_done_or_on : ℕ → Call → Bool

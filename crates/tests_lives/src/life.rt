@@ -4,7 +4,7 @@ ghost use Rattle.std.specs.List.{list_all};
 ghost use Rattle.paraid_recover.specs.Between.{RanBetween};
 ghost use Rattle.paraid_record.specs.declared.meta.Setup.{Setup as SetupType};
 ghost use Rattle.paraid_memrack.specs.Rules.{rack_slot_count, told_of};
-ghost use Rattle.paraid_program.specs.Outcome.{BecomesEmpty};
+ghost use Rattle.paraid_commands.specs.Outcome.{BecomesEmpty};
 ghost use Rattle.tests_lives.specs.Life.{RunAnswers, IsLife, is_done_or_on};
 
 use paraid_base::DiskNo;

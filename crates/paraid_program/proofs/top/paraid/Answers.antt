@@ -1,12 +1,12 @@
 use Rattle.std.proofs.Common.{◌≡◌, ap, ◌∙◌, Some, refl}
 use Rattle.paraid_words.specs.declared.command.Command.TheVariants.{Format, Run, Spare, Status, Check, Gen, Nbd, Vol, Plan}
-use Rattle.paraid_program.proofs.CompleteLemmas.{check_comes, gen_comes, run_comes, status_comes}
+use Rattle.paraid_commands.proofs.CompleteLemmas.{check_comes, gen_comes, run_comes, status_comes}
 use Rattle.paraid_program.proofs.FormatLemmas.{format_comes}
-use Rattle.paraid_program.proofs.PlanLemmas.{plan_comes}
-use Rattle.paraid_program.proofs.SpareLemmas.{spared_comes}
-use Rattle.paraid_program.proofs.NbdComesLemmas.{nbd_comes}
-use Rattle.paraid_program.proofs.VolumeLemmas.{volumes_come}
-use Rattle.paraid_program.proofs.TakenLemmas.{check_not_read, not_read}
+use Rattle.paraid_commands.proofs.PlanLemmas.{plan_comes}
+use Rattle.paraid_commands.proofs.SpareLemmas.{spared_comes}
+use Rattle.paraid_commands.proofs.NbdComesLemmas.{nbd_comes}
+use Rattle.paraid_commands.proofs.VolumeLemmas.{volumes_come}
+use Rattle.paraid_commands.proofs.TakenLemmas.{check_not_read, not_read}
 use Rattle.paraid_words.proofs.AskedLemmas.{asks, does_it, nothing_asked}
 use Rattle.paraid_program.specs.CommandDoes.{ReadsSource, TakesSource}
 use Rattle.paraid_words.specs.declared.command.Command.{Command}

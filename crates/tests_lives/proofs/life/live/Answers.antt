@@ -2,7 +2,7 @@ use Rattle.std.proofs.Common.{ℕ, sym, ap, subst, ◌∙◌}
 use Rattle.std.specs.List.{list_all}
 use Rattle.paraid_recover.specs.Between.{RanBetween}
 use Rattle.paraid_memrack.specs.Rules.{told_of}
-use Rattle.paraid_program.specs.Outcome.{BecomesEmpty}
+use Rattle.paraid_commands.specs.Outcome.{BecomesEmpty}
 use Rattle.tests_lives.specs.Life.{RunAnswers, is_done_or_on}
 use Rattle.tests_lives.proofs.LifeLemmas.{life, of_result}
 use Rattle.tests_lives.proofs.life.live.Goals as goal
