@@ -13,6 +13,7 @@ returns g c = record {
       (λ (s : Slot). record s { unsynced = false }) (λ (s : Slot). s.unsynced) _ c.renew_labels.ensures.slots c.requires.exists c.index_mut.ensures.value c.sync.ensures.slot;
   told = λ t e. nothing_told t e;
   known = c.renew_labels.ensures.known;
+  keeps = c.renew_labels.ensures.keeps;
   labels = c.renew_labels.ensures.told;
   found = found_after c.args.self.now.images.items c.renew_labels.new.self.images.items c.args.disk c.index_mut.result.now _ _ c.renew_labels.ensures.slots c.requires.exists c.index_mut.ensures.value c.sync.ensures.cause c.renew_labels.ensures.found;
   why = why_after c.args.self.now.images.items c.renew_labels.new.self.images.items c.args.disk c.index_mut.result.now _ _ c.renew_labels.ensures.slots c.requires.exists c.index_mut.ensures.value c.sync.ensures.cause;
