@@ -273,6 +273,10 @@ impl<F: Files<File = File> + Drop> Rack for ImageRack<F> {
             → FitsTailLate i (tail_at self.new.images.items disk) disk)) }
         ensures read { OnOk result (IfSome self.old.identity
             (λ _. tail_at self.new.images.items disk ≢ Unread)) }
+        ensures is_open { OnOk result (IfSome self.old.identity
+            (λ _. has_file_at self.new.images.items disk ≡ true)) }
+        ensures shut { has_file_at self.old.images.items disk ≡ false
+            → has_file_at self.new.images.items disk ≡ false }
         ensures images { KeepsOtherImages self.old.images.items self.new.images.items disk }
         ensures cause { KeepsCause (cause_at self.old.images.items disk)
             (cause_at self.new.images.items disk) (is_ok result) }
