@@ -124,17 +124,17 @@ module _ (images : List Image) (d : ℕ) (y x : Image) (within : d < length imag
     | inr cause ↦ inr (some_cause_at cause)
   ])
 
-  pub looked_at-set_same : (x.power ≡ Spinning → (x.tail ≢ Unread) ⊎ (IsSome x.cause × (has_file x ≡ false))) → IsLookedAt (set images d x) d
+  pub looked_at-set_same : (x.power ≡ Spinning → ((x.tail ≢ Unread) × (has_file x ≡ true)) ⊎ (IsSome x.cause × (has_file x ≡ false))) → IsLookedAt (set images d x) d
   looked_at-set_same read spins =
       let power : x.power ≡ Spinning = ap (λ (s : Slot). s.power) (sym (image_slot_at-set_same images d x within)) ∙ spins in
       elim (read power) [
-        | inl tail ↦ inl (subst (λ (t : Tail). t ≢ Unread) (sym (tail-set_same images d x within ∙ ap (λ p. read_tail_of p x.tail) power)) tail)
+        | inl seen ↦ inl (subst (λ (t : Tail). t ≢ Unread) (sym (tail-set_same images d x within ∙ ap (λ p. read_tail_of p x.tail) power)) seen.0, has_file_at-set_same ∙ seen.1)
         | inr shut ↦ inr (some_cause_at shut.0, has_file_at-set_same ∙ shut.1)
       ]
 
   pub looked_at-set_other : (e : ℕ) → e ≢ d → IsLookedAt images e → IsLookedAt (set images d x) e
   looked_at-set_other e not read spins = elim (read (ap (λ (s : Slot). s.power) (sym (image_slot_at-set_other images d x within e not)) ∙ spins)) [
-    | inl tail ↦ inl (subst (λ (t : Tail). t ≢ Unread) (sym (tail-set_other images d x e not)) tail)
+    | inl seen ↦ inl (subst (λ (t : Tail). t ≢ Unread) (sym (tail-set_other images d x e not)) seen.0, has_file_at-set_other e not ∙ seen.1)
     | inr shut ↦ inr (subst (λ (o : Option Error). IsSome o) (sym (cause_at-set_other e not)) shut.0, has_file_at-set_other e not ∙ shut.1)
   ]
 
@@ -149,6 +149,12 @@ module _ (images : List Image) (d : ℕ) (y x : Image) (within : d < length imag
   pub read_at : {A E : Type 0} (r : Result A E) (known : Option Identity) (dirt : Bool) → Becomes (image_slot y) (image_slot x) (record (image_slot y) { power = Spinning }) dirt (is_ok r)
       → OnOk r (IfSome known (λ i. x.tail ≢ Unread)) → OnOk r (IfSome known (λ i. tail_at (set images d x) d ≢ Unread))
   read_at r known dirt call = on_ok r (λ ok read. subst (λ (t : Tail). IfSome known (λ i. t ≢ Unread)) (sym (tail_now dirt (is_ok r) call ok)) read)
+
+  pub open_at : {A E : Type 0} (r : Result A E) (known : Option Identity) → OnOk r (IfSome known (λ i. has_file x ≡ true)) → OnOk r (IfSome known (λ i. has_file_at (set images d x) d ≡ true))
+  open_at r known = on_ok r (λ ok. subst (λ (b : Bool). IfSome known (λ i. b ≡ true)) (sym has_file_at-set_same))
+
+  pub shut_at : (has_file y ≡ false → has_file x ≡ false) → has_file_at images d ≡ false → has_file_at (set images d x) d ≡ false
+  shut_at shut = shut-set shut d
 
   pub KeepsOtherImages-set : KeepsOtherImages images (set images d x) d
   KeepsOtherImages-set = record {
@@ -195,7 +201,7 @@ module _ (before images : List Image) (d : ℕ) (y x : Image) (ok : Bool) (same 
 pub looked_at-same : (old new : List Image) → map image_slot new ≡ map image_slot old → map image_tail new ≡ map image_tail old → map image_cause new ≡ map image_cause old → map has_file new ≡ map has_file old
     → (d : ℕ) → IsLookedAt old d → IsLookedAt new d
 looked_at-same old new slots tails causes opened d read spins = elim (read (ap (λ (l : List Slot). (get_or l d vacant_slot).power) (sym slots) ∙ spins)) [
-  | inl tail ↦ inl (subst (λ (l : List Tail). get_or l d Other ≢ Unread) (sym tails) tail)
+  | inl seen ↦ inl (subst (λ (l : List Tail). get_or l d Other ≢ Unread) (sym tails) seen.0, ap (λ (l : List Bool). get_or l d false) opened ∙ seen.1)
   | inr shut ↦ inr (subst (λ (l : List (Option Error)). IsSome (get_or l d None)) (sym causes) shut.0, ap (λ (l : List Bool). get_or l d false) opened ∙ shut.1)
 ]
 

@@ -35,11 +35,12 @@ has_file i = is_some i.file
 abbrev pub has_file_at : List Image → ℕ → Bool
 has_file_at images d = get_or (map has_file images) d false
 
--- If the disk of this slot spins, its image was looked at behind its blocks; or it could not be, the
--- cause of that is told, and the image is shut.
+-- If the disk of this slot spins, its image is open and was looked at behind its blocks; or it
+-- could not be, the cause of that is told, and the image is shut.
 abbrev pub IsLookedAt : List Image → ℕ → Type 0
 IsLookedAt images d = (image_slot_at images d).power ≡ Spinning
-    → (tail_at images d ≢ Unread) ⊎ (IsSome (cause_at images d) × (has_file_at images d ≡ false))
+    → ((tail_at images d ≢ Unread) × (has_file_at images d ≡ true))
+    ⊎ (IsSome (cause_at images d) × (has_file_at images d ≡ false))
 
 -- The first cause of each disk is kept.
 abbrev pub KeepsCauses : List Image → List Image → Type 0

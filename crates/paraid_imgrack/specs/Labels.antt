@@ -269,8 +269,8 @@ pub record IsOfSlot (i : Identity) (l : Label) (slot : ℕ) : Type 0 where
   pub disk : l.disk ≡ slot
   pub array : l.array ≡ i.array
 
--- The generation of the label of this slot is kept, where there is one of the array and of the slot;
--- else 0.
+-- The generation of the label of this slot is kept, where there is one of the array and of the
+-- slot; else 0.
 pub record IsLabelSeen (i : Identity) (label : Option Label) (slot : ℕ) : Type 0 where
   pub here : IfSome label (λ l. IsOfSlot i l slot → slice_index i.seen slot ≡ l.generation)
   pub none : IfSome label (λ l. IsOfSlot i l slot → ⊥) → slice_index i.seen slot ≡ 0

@@ -18,8 +18,8 @@ impl<F: Files<File = File> + Drop> Closed<F> {
         Closed { rack }
     }
 
-    /// Gives the images that were attached since the load the labels of a new array, unless they are
-    /// known to be of one.
+    /// Gives the images that were attached since the load the labels of a new array, unless they
+    /// are known to be of one.
     pub fn label_array(&mut self)
         ensures kept { IsSome self.old.rack.identity → self.new ≡ self.old }
     {

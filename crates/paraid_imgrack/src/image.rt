@@ -145,7 +145,8 @@ impl Image {
         ensures first { IsSome self.old.cause → self.new.cause ≡ self.old.cause }
         ensures kept { result ≡ image_label self.new }
         ensures read { self.new.power ≡ Spinning
-            → (self.new.tail ≢ Unread) ⊎ (IsSome self.new.cause × (has_file self.new ≡ false)) }
+            → ((self.new.tail ≢ Unread) × (has_file self.new ≡ true))
+            ⊎ (IsSome self.new.cause × (has_file self.new ≡ false)) }
     {
         if self.power != Power::Spinning {
             return None;
@@ -310,6 +311,8 @@ impl Image {
         ensures cause { KeepsCause self.old.cause self.new.cause (is_ok result) }
         ensures why { OnErr result (IsSome self.new.misfit ⊎ IsSome self.new.cause) }
         ensures read { OnOk result (IfSome identity.old (λ _. self.new.tail ≢ Unread)) }
+        ensures is_open { OnOk result (IfSome identity.old (λ _. has_file self.new ≡ true)) }
+        ensures shut { has_file self.old ≡ false → has_file self.new ≡ false }
     {
         match identity {
             Some(identity) => {
@@ -338,6 +341,8 @@ impl Image {
         ensures cause { KeepsCause self.old.cause self.new.cause (is_ok result) }
         ensures why { OnErr result (IsSome self.new.misfit ⊎ IsSome self.new.cause) }
         ensures read { OnOk result (self.new.tail ≢ Unread) }
+        ensures is_open { OnOk result (has_file self.new ≡ true) }
+        ensures shut { has_file self.old ≡ false → has_file self.new ≡ false }
         ensures given { OnOk result ((identity.new ≡ identity.old)
             ⊎ CanHaveLabel self.new.tail) }
     {
@@ -362,6 +367,7 @@ impl Image {
         ensures slot { Becomes (image_slot self.old) (image_slot self.new)
             (record (image_slot self.old) { power = power }) false (is_ok result) }
         ensures cause { TellsCause self.old self.new (is_ok result) }
+        ensures stays { OnOk result (has_file self.new ≡ has_file self.old) }
     {
         match self.names.store(files, power) {
             Ok(()) => self.power = power,
@@ -655,12 +661,13 @@ fn sync_blocks(file: &Option<File>) -> io::Result<()>
 }
 
 fn tail_of(file: &Option<File>, size: u32) -> io::Result<Tail>
-    ensures { IfOk result (λ tail. tail ≢ Unread) }
+    ensures read { IfOk result (λ tail. tail ≢ Unread) }
+    ensures opened { OnOk result (IsSome file.now) }
 {
-    match file {
-        Some(file) => read_tail(file, size),
-        None => Ok(Tail::Other),
-    }
+    let Some(file) = file else {
+        return Err(not_open());
+    };
+    read_tail(file, size)
 }
 
 fn label_in(tail: &Tail) -> Option<Label>

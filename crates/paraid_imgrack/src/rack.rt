@@ -145,7 +145,7 @@ impl<F: Files<File = File> + Drop> Rack for ImageRack<F> {
     ghost use Rattle.paraid_rack.specs.Trail.{Trail, now};
     ghost use Rattle.paraid_imgrack.specs.Calls.{KeepsCause, KeepsFound, KeepsOtherImages, TellsCauseAt, cause_at, has_file_at};
     ghost use Rattle.paraid_imgrack.specs.Images.{IsTold, image_slot_at, misfit_at, tail_at};
-    ghost use Rattle.paraid_imgrack.specs.Labels.{FitsTailLate, known_array};
+    ghost use Rattle.paraid_imgrack.specs.Labels.{FitsTailLate, KeepsKnown, KeepsOthers, known_array};
     ghost use Rattle.paraid_imgrack.specs.Laws.{are_slots, nothing_told};
     ghost use Rattle.paraid_imgrack.specs.declared.tail.Tail.TheVariants.{Unread};
 
@@ -226,6 +226,8 @@ impl<F: Files<File = File> + Drop> Rack for ImageRack<F> {
             (image_slot_at self.old.images.items disk).unsynced (is_ok result) }
         ensures told { GrowsByCall None None (Sync disk (is_ok result)) }
         ensures known { known_array self.new.identity ≡ known_array self.old.identity }
+        ensures keeps { IfSome self.old.identity (λ old. IfSome self.new.identity
+            (KeepsKnown old)) }
         ensures labels { IfSome self.new.identity IsTold }
         ensures found { KeepsFound self.old.images.items self.new.images.items }
         ensures why { is_ok result ≡ false → IsSome (cause_at self.new.images.items disk) }
@@ -263,10 +265,18 @@ impl<F: Files<File = File> + Drop> Rack for ImageRack<F> {
             false (is_ok result) }
         ensures told { GrowsByCall None None (SpinUp disk (is_ok result)) }
         ensures known { known_array self.new.identity ≡ known_array self.old.identity }
+        ensures others { IfSome self.old.identity (λ old. IfSome self.new.identity
+            (λ new. KeepsOthers old new disk)) }
+        ensures same { IfSome self.old.identity (λ old. IfSome self.new.identity
+            (λ new. new.generation ≡ old.generation)) }
         ensures fits { OnOk result (IfSome self.old.identity (λ i. disk < i.disks
             → FitsTailLate i (tail_at self.new.images.items disk) disk)) }
         ensures read { OnOk result (IfSome self.old.identity
             (λ _. tail_at self.new.images.items disk ≢ Unread)) }
+        ensures is_open { OnOk result (IfSome self.old.identity
+            (λ _. has_file_at self.new.images.items disk ≡ true)) }
+        ensures shut { has_file_at self.old.images.items disk ≡ false
+            → has_file_at self.new.images.items disk ≡ false }
         ensures images { KeepsOtherImages self.old.images.items self.new.images.items disk }
         ensures cause { KeepsCause (cause_at self.old.images.items disk)
             (cause_at self.new.images.items disk) (is_ok result) }
@@ -287,6 +297,8 @@ impl<F: Files<File = File> + Drop> Rack for ImageRack<F> {
             (image_slot_at self.old.images.items disk).unsynced (is_ok result) }
         ensures told { GrowsByCall None None (Attach disk size (is_ok result)) }
         ensures known { known_array self.new.identity ≡ known_array self.old.identity }
+        ensures others { IfSome self.old.identity (λ old. IfSome self.new.identity
+            (λ new. KeepsOthers old new disk)) }
         ensures newer { OnOk result (IfSome self.old.identity (λ old. IfSome self.new.identity
             (λ new. HasRisen old.generation new.generation))) }
         ensures again { OnOk result (IfSome self.old.identity (λ old. IfSome self.new.identity

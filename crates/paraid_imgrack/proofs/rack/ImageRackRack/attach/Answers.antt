@@ -14,6 +14,7 @@ returns g c = record {
       (λ (s : Slot). record s { power = Spinning; size = c.args.size; unsynced = false }) (λ (s : Slot). s.unsynced) _ c.requires.exists c.index_mut.ensures.value c.attach.ensures.slot;
   told = λ t e. nothing_told t e;
   known = c.attach.ensures.known;
+  others = c.attach.ensures.others;
   newer = c.attach.ensures.newer;
   again = c.attach.ensures.again;
   labelled = c.attach.ensures.labelled;
