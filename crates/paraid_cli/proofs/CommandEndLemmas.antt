@@ -1,14 +1,8 @@
--- How `main` comes to its status.
-use Rattle.std.proofs.Common.{◌≡◌, ℕ, ◌⊎◌, inl, inr, Bool, true, false, ◌||◌, List, Option, Some, None, refl, sym, ap, subst, ◌∙◌, arith}
-use Rattle.paraid_cli.specs.CommandEnd.{IsOwnStatus, ServesReady}
-use Rattle.paraid_cli.specs.Ready.{IsReady}
+-- The rack above where nothing waits.
+use Rattle.std.proofs.Common.{◌≡◌, ℕ, Bool, true, false, ◌||◌, refl, ap, ◌∙◌}
 use Rattle.paraid_gather.specs.Above.{slot_above, slots_above}
 use Rattle.paraid_gather.specs.Waiting.{Waiting, none_waits}
-use Rattle.paraid_imgrack.specs.declared.image.Image.{Image}
-use Rattle.paraid_imgrack.specs.declared.rack.ImageRack.{ImageRack}
 use Rattle.paraid_rack.specs.Slots.{Slot}
-use Rattle.paraid_serve.specs.Statuses.{status_no_memory}
-use Rattle.paraid_words.specs.declared.command.Command.{Command}
 
 or_false : (b : Bool) → (b || false) ≡ b
 or_false true = refl
@@ -21,22 +15,3 @@ slot_alone s w is = ap (slot_above s) is ∙ ap (λ (b : Bool). record s { unsyn
 pub slots_alone : {R : Type 0} (slot : R → ℕ → Slot) (below rack : R) (w : ℕ → Waiting) → below ≡ rack → ((d : ℕ) → w d ≡ none_waits)
     → (d : ℕ) → slots_above (slot below) w d ≡ slot rack d
 slots_alone {R} slot below rack w is none d = slot_alone (slot below d) (w d) (none d) ∙ ap (λ (r : R). slot r d) is
-
--- want of memory is told by a status of the edge's own
-pub no_memory_is_own : (c : Command) → IsOwnStatus c status_no_memory
-no_memory_is_own c = record { among = inr (inr (inr (inl refl))); source = λ is. absurd (omega (arith, is)) }
-
--- a program that was handed this command, with a rack that was ready for it and then shut, has served it or is left
-pub handed : {P F : Type 0} (program : P) (left : Option P) (free : List Image → Type 0) (ended : ImageRack F → Command → ℕ → Type 0) (rack inside : ImageRack F) (asked read : Command) (status : ℕ)
-    → inside ≡ rack → asked ≡ read → IsReady free read rack
-    → ((left ≡ Some program) × IsOwnStatus asked status) ⊎ ((left ≡ None) × ended inside asked status)
-    → ((left ≡ Some program) × IsOwnStatus asked status) ⊎ ((left ≡ None) × ServesReady free ended asked status)
-handed program left free ended rack inside asked read status is same ready (inl unused) = inl unused
-handed {P} {F} program left free ended rack inside asked read status is same ready (inr served) = inr (
-  served.0,
-  record {
-    rack = rack;
-    ready = subst (λ (c : Command). IsReady free c rack) (sym same) ready;
-    ends = subst (λ (r : ImageRack F). ended r asked status) is served.1;
-  },
-)

@@ -1,2 +1,1 @@
 pub mod CommandEnd
-pub mod Ready

@@ -1,14 +1,13 @@
 //! Hands the program the standard streams and the image files of the current folder.
 #![tactic(auto)]
 
-mod edge;
 mod logs;
-mod program;
 mod served;
 mod streams;
 
 use crate::served::Sealed;
 use crate::streams::Paraid;
+use paraid_edge::answer_words;
 use paraid_io::{StdSink, StdSource};
 use paraid_serve::status;
 use std::process::ExitCode;
@@ -33,5 +32,5 @@ fn main(rt: HostRuntime) -> ExitCode {
         source: Sealed::new(StdSource::new(rt.reader())),
         sink: Sealed::new(StdSink::new(io::writer(&rt))),
     };
-    ExitCode::from(edge::answer_words(&rt, program, &words).status)
+    ExitCode::from(answer_words(&rt, program, &words).status)
 }

@@ -6,11 +6,11 @@
 ghost use Rattle.std.specs.Prelude.{◌≡◌, IfErr, IfOk, Some, map, string_bytes};
 ghost use Rattle.paraid_cli.specs.CommandEnd.{EndsCommand};
 ghost use Rattle.paraid_gather.specs.Above.{told_above};
-ghost use Rattle.paraid_program.specs.CommandDoes.{ReadsSource};
 ghost use Rattle.paraid_rack.specs.Trail.{Trail};
 ghost use Rattle.paraid_serve.specs.Ending.{EndsWithLine};
 ghost use Rattle.paraid_serve.specs.Streams.{sink_use, source_use};
 ghost use Rattle.paraid_serve.specs.Statuses.{status_words};
+ghost use Rattle.paraid_words.specs.Reads.{ReadsSource};
 ghost use Rattle.paraid_words.specs.Words.{AskFor, usage_line};
 ghost use Rattle.paraid_words.specs.declared.command.Command.{Command as CommandType};
 

@@ -6,13 +6,12 @@ ghost use Rattle.paraid_words.specs.Words.{AskFor};
 ghost use Rattle.paraid_words.specs.declared.command.Command.{Command as CommandType};
 
 use crate::logs::hold_array;
-use crate::program::Program;
 use crate::served::{GatheredEnd, Sealed, serve_gathered};
 use paraid_base::DiskNo;
+use paraid_edge::{Program, Served};
 use paraid_gather::Unnoted;
-use paraid_imgrack::{Claim, Closed, ImageRack};
+use paraid_imgrack::{Claim, ImageRack};
 use paraid_io::{Sink, Source};
-use paraid_program::ProgramEnd;
 use std::alloc::Global;
 use std::fs::{File, Files};
 
@@ -26,6 +25,10 @@ pub(crate) struct Paraid<S, K> {
 
 impl<F: Files<File = File> + Drop, S: Source + Drop, K: Sink + Drop> Program<F> for Paraid<S, K> {
     ghost use Rattle.std.specs.Prelude.{length};
+
+    type Sealed = Sealed<ImageRack<F>>;
+
+    ghost inside = { λ rack. rack.inside };
 
     ghost ended = { λ program rack c status. EndsOverImages
         (source_use S.left S.faults program.source.inside)
@@ -79,11 +82,13 @@ impl<F: Files<File = File> + Drop, S: Source + Drop, K: Sink + Drop> Program<F> 
         Some((disk, claim))
     }
 
-    fn serve(
-        self,
-        words: &Vec<String>,
-        rack: Sealed<ImageRack<F>>,
-    ) -> Result<ProgramEnd<Closed<F>>, Self>
+    fn seal(rack: ImageRack<F>) -> Sealed<ImageRack<F>>
+        ensures { result.inside ≡ rack }
+    {
+        Sealed::new(rack)
+    }
+
+    fn serve(self, words: &Vec<String>, rack: Sealed<ImageRack<F>>) -> Result<Served<F>, Self>
         ensures status { IfOk result (λ end. (c : CommandType)
             → AskFor c (map string_bytes words.now.items)
             → EndsOverImages (source_use S.left S.faults self.source.inside) (sink_use
@@ -104,7 +109,7 @@ impl<F: Files<File = File> + Drop, S: Source + Drop, K: Sink + Drop> Program<F> 
                     rack,
                     log: Unnoted,
                 },
-            ) => Ok(ProgramEnd {
+            ) => Ok(Served {
                 status,
                 rack: rack.close(),
             }),

@@ -2,9 +2,10 @@
 ghost use Rattle.std.specs.Prelude.{◌≡◌, map, string_bytes};
 ghost use Rattle.paraid_base.specs.Told.{AtEnd, HasRisen};
 ghost use Rattle.paraid_serve.specs.Ending.{EndsWithLine};
+ghost use Rattle.paraid_words.specs.Reads.{ReadsSource, TakesSource};
 ghost use Rattle.paraid_words.specs.Words.{AskFor, usage_line};
 ghost use Rattle.paraid_program.specs.CommandCompletes.{CompletesCommand};
-ghost use Rattle.paraid_program.specs.CommandDoes.{DoesCommand, ReadsSource, TakesSource};
+ghost use Rattle.paraid_program.specs.CommandDoes.{DoesCommand};
 ghost use Rattle.paraid_words.specs.declared.command.Command.{Command as CommandType};
 ghost use Rattle.paraid_commands.specs.Racks.{rack_use};
 ghost use Rattle.paraid_serve.specs.Streams.{EndsAtFaults, sink_use, source_use};

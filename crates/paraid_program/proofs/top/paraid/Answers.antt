@@ -8,7 +8,7 @@ use Rattle.paraid_commands.proofs.NbdComesLemmas.{nbd_comes}
 use Rattle.paraid_commands.proofs.VolumeLemmas.{volumes_come}
 use Rattle.paraid_commands.proofs.TakenLemmas.{check_not_read, not_read}
 use Rattle.paraid_words.proofs.AskedLemmas.{asks, does_it, nothing_asked}
-use Rattle.paraid_program.specs.CommandDoes.{ReadsSource, TakesSource}
+use Rattle.paraid_words.specs.Reads.{ReadsSource, TakesSource}
 use Rattle.paraid_words.specs.declared.command.Command.{Command}
 use Rattle.paraid_program.proofs.top.paraid.Given.{Over}
 use Rattle.paraid_program.proofs.top.paraid.Goals as goal

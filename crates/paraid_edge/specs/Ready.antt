@@ -27,9 +27,9 @@ IsAsOpenedButLogs rack = (d : ℕ) → d < length (images_of rack)
     → IsLoaded (image_slot_at (images_of rack) d)
     ⊎ ((d < 2) × HasRisen 0 (image_slot_at (images_of rack) d).faults)
 
--- A new array is made only where it may be, on a rack of which no more was asked than what its log
--- disks hold; or, if that is forced, over a whole rack. All else needs images that are of their
--- slots. At the program, `free` says no more than that there are eight.
+-- A new array is made only where it may be, on a rack that looks as it was opened, but for a log
+-- disk that has failed since; or, if that is forced, over a whole rack. All else needs images that
+-- are of their slots. At the program, `free` says no more than that there are eight.
 abbrev pub IsReady : {F : Type 0} → (List Image → Type 0) → Command → ImageRack F → Type 0
 IsReady free (Format false) rack = free (images_of rack) × IsAsOpenedButLogs rack
 IsReady free (Format true) rack = IsWhole rack

@@ -2,18 +2,16 @@
 //! in a folder, and images that are there and do not belong or cannot be opened are not taken for
 //! lost ones.
 ghost use Rattle.std.specs.Prelude.{◌≡◌, ◌⊎◌, ◌↔◌, ◌<◌, ℕ, None, Some, IfNone, IfSome, IsSome, IsTrue, map, string_bytes};
-ghost use Rattle.paraid_cli.specs.CommandEnd.{EndsAsked, EndsUnasked, IsOwnStatus};
-ghost use Rattle.paraid_cli.specs.Ready.{IsAsOpenedButLogs, IsReady, IsSound, IsWhole};
+ghost use Rattle.paraid_edge.specs.EdgeEnd.{EndsAsked, EndsUnasked, IsOwnStatus};
+ghost use Rattle.paraid_edge.specs.Ready.{IsAsOpenedButLogs, IsReady, IsSound, IsWhole};
 ghost use Rattle.paraid_imgrack.specs.Images.{misfit_at, IsFirstMisfit};
 ghost use Rattle.paraid_imgrack.specs.Looks.{images_of, HasTrueMisfits, IsUnhindered};
-ghost use Rattle.paraid_program.specs.CommandDoes.{ReadsSource};
+ghost use Rattle.paraid_words.specs.Reads.{ReadsSource};
 ghost use Rattle.paraid_words.specs.Words.{AskFor};
 ghost use Rattle.paraid_words.specs.declared.command.Command.{Command as CommandType};
 
-use crate::program::{EdgeEnd, Program};
-use crate::served::Sealed;
+use crate::program::{EdgeEnd, Program, Served};
 use paraid_imgrack::{Claim, Closed, Hindrance, ImageRack};
-use paraid_program::ProgramEnd;
 use paraid_rack::MOST_SLOTS;
 use paraid_serve::status;
 use paraid_words::{Command, read_words};
@@ -22,7 +20,7 @@ use std::io::{self, Eprint, Input, Print};
 use std::os::fd::AsRawFd;
 
 /// What the program takes of the system.
-pub(crate) trait Host: Files<File = File> + AllocGlobal + Input + Print + Eprint {}
+pub trait Host: Files<File = File> + AllocGlobal + Input + Print + Eprint {}
 
 impl<R: Files<File = File> + AllocGlobal + Input + Print + Eprint> Host for R {}
 
@@ -55,7 +53,7 @@ impl Folder {
 }
 
 /// Does what the words ask for with the images of the current folder.
-pub(crate) fn answer_words<'a, H: Host, P: Program<&'a H>>(
+pub fn answer_words<'a, H: Host, P: Program<&'a H>>(
     rt: &'a H,
     program: P,
     words: &Vec<String>,
@@ -171,7 +169,7 @@ fn work_there<'a, H: Host, P: Program<&'a H>>(
     if let Some(disk) = refused(rt, &program, &mut rack, command) {
         return EdgeEnd::unused(program, refuse(rt, command, disk));
     }
-    hand_over(rt, program, words, command, Sealed::new(rack))
+    hand_over(rt, program, words, command, P::seal(rack))
 }
 
 /// Hands the command to the program, and tells of the images after it.
@@ -180,16 +178,16 @@ fn hand_over<'a, H: Host, P: Program<&'a H>>(
     program: P,
     words: &Vec<String>,
     command: &Command,
-    rack: Sealed<ImageRack<&'a H>>,
+    rack: P::Sealed,
 ) -> EdgeEnd<P>
     requires { (c : CommandType) → AskFor c (map string_bytes words.now.items)
-        → IsReady (P.free program) c rack.inside }
+        → IsReady (P.free program) c (P.inside rack) }
     ensures { (c : CommandType) → AskFor c (map string_bytes words.now.items)
         → ((result.left ≡ Some program) × IsOwnStatus c result.status)
-        ⊎ ((result.left ≡ None) × P.ended program rack.entry.inside c result.status) }
+        ⊎ ((result.left ≡ None) × P.ended program (P.inside rack) c result.status) }
 {
     match program.serve(words, rack) {
-        Ok(ProgramEnd { status, rack }) => {
+        Ok(Served { status, rack }) => {
             end_images(rt, command, status, rack);
             EdgeEnd { status, left: None }
         }

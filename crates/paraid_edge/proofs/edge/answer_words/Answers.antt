@@ -1,6 +1,6 @@
 use Rattle.std.proofs.Common.{◌≡◌, refl}
 use Rattle.paraid_words.proofs.AskedLemmas.{asks, does_it, nothing_asked}
-use Rattle.paraid_cli.proofs.edge.answer_words.Goals as goal
+use Rattle.paraid_edge.proofs.edge.answer_words.Goals as goal
 
 pub work-requires : goal.work-requires
 work-requires g c k = ((refl, tt), does_it _ _ c.read_words.ensures.exact (λ k. k ≡ c.in-Some.command) c.in-Some.command c.in-Some.is refl)

@@ -1,5 +1,0 @@
-use Rattle.paraid_cli.proofs.CommandEndLemmas.{no_memory_is_own}
-use Rattle.paraid_cli.proofs.edge.end_without_memory.Goals as goal
-
-pub returns : goal.returns
-returns g c k = c.end.ensures k (no_memory_is_own k)

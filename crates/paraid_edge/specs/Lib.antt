@@ -1,0 +1,2 @@
+pub mod EdgeEnd
+pub mod Ready
