@@ -1,6 +1,6 @@
 -- How a command that mounts ends on a rack that held a history: all is done, or one of a few causes
 -- is told.
-use Rattle.std.specs.Prelude.{◌≡◌, ℕ, ◌^◌, List, [], ◌∷◌, ◌++◌, length, Option, Some}
+use Rattle.std.specs.Prelude.{◌≡◌, ℕ, List, [], ◌∷◌, ◌++◌, length, Option, Some}
 use Rattle.paraid_base.specs.declared.fault.Two.{Two}
 use Rattle.paraid_base.specs.History.{History}
 use Rattle.paraid_base.specs.Told.{AtEnd, Gives, GrowsByBytes, HasRisen, stream_most}

@@ -14,7 +14,6 @@ ghost use Rattle.paraid_commands.specs.Ends.{CountsArray, HandsBack, ServedArray
 ghost use Rattle.paraid_commands.specs.Racks.{rack_use};
 
 use paraid_base::Halt;
-use paraid_io::{Sink, Source};
 use paraid_rack::Rack;
 use paraid_recover::MountRefused;
 use paraid_scrub::CheckReport;

@@ -11,7 +11,7 @@ ghost use Rattle.paraid_scrub.specs.Looks.{IsReadable, KeepsView};
 
 use crate::ending::Ending;
 use crate::stored::Stored;
-use paraid_base::{Block, DiskNo, Place, Row};
+use paraid_base::{Block, DiskNo, Row};
 use paraid_layout::{hard_place, soft_of, soft_place};
 use paraid_parity::xor_into;
 
