@@ -1,11 +1,13 @@
 -- What a call on a disk leaves of what was found of its image, and of the causes that are told.
-use Rattle.std.specs.Prelude.{◌≡◌, ◌≢◌, ◌⊎◌, ℕ, Bool, true, false, List, Option, None, map, get_or, is_some, IsSome}
+use Rattle.std.specs.Prelude.{◌≡◌, ◌≢◌, ◌⊎◌, ℕ, Bool, true, false, List, Option, None, map, get_or, is_some, slice_index, IsSome}
 use Rattle.std.specs.declared.io.Error.{Error}
+use Rattle.paraid_imgrack.specs.declared.identity.Identity.{Identity}
 use Rattle.paraid_imgrack.specs.declared.image.Image.{Image}
 use Rattle.paraid_imgrack.specs.declared.tail.Tail.{Tail}
 use Rattle.paraid_imgrack.specs.declared.tail.Tail.TheVariants.{Other, Unread}
 use Rattle.paraid_rack.specs.declared.call.Power.TheVariants.{Spinning, Absent}
 use Rattle.paraid_imgrack.specs.Images.{image_misfit, image_slot_at, misfit_at, tail_at}
+use Rattle.paraid_imgrack.specs.Labels.{CanHaveLabel}
 
 -- why the first call on the disk that failed did so
 abbrev pub image_cause : Image → Option Error
@@ -83,3 +85,17 @@ pub record KeepsOtherImages (old new : List Image) (disk : ℕ) : Type 0 where
   pub misfits : (d : ℕ) → d ≢ disk → misfit_at new d ≡ misfit_at old d
   pub tails : (d : ℕ) → d ≢ disk → end_at new d ≡ end_at old d
   pub files : (d : ℕ) → d ≢ disk → has_file_at new d ≡ has_file_at old d
+
+-- That this image spins and a label can be written behind its blocks, as they were last looked at.
+-- No other gets one.
+abbrev pub CanGetLabel : List Image → ℕ → Type 0
+CanGetLabel images d = ((image_slot_at images d).power ≡ Spinning) × CanHaveLabel (end_at images d)
+
+-- Of each of these images the same is known and was seen as before; or that it is of the generation
+-- that labels get, which stays. That is said only of one that can get a label.
+pub record KeepsKnown (images : List Image) (old new : Identity) : Type 0 where
+  pub generation : new.generation ≡ old.generation
+  pub each : (e : ℕ) → ((slice_index new.known e ≡ slice_index old.known e)
+      × (slice_index new.seen e ≡ slice_index old.seen e))
+      ⊎ (((slice_index new.known e ≡ old.generation) × (slice_index new.seen e ≡ old.generation))
+      × CanGetLabel images e)

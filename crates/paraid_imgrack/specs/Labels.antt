@@ -285,14 +285,6 @@ pub record KnowsNone (i : Identity) : Type 0 where
   pub known : (e : ℕ) → slice_index i.known e ≡ 0
   pub seen : (e : ℕ) → slice_index i.seen e ≡ 0
 
--- Of each image the same is known and was seen as before, or that it is of the generation that
--- labels get, which stays.
-pub record KeepsKnown (old new : Identity) : Type 0 where
-  pub generation : new.generation ≡ old.generation
-  pub images : (e : ℕ) → ((slice_index new.known e ≡ slice_index old.known e)
-      × (slice_index new.seen e ≡ slice_index old.seen e))
-      ⊎ ((slice_index new.known e ≡ old.generation) × (slice_index new.seen e ≡ old.generation))
-
 -- Of the image of this disk alone something else may be known than before: that it is of the
 -- generation that labels get now, which has not fallen.
 pub record KeepsOthers (old new : Identity) (disk : ℕ) : Type 0 where

@@ -1,9 +1,9 @@
 //! The labels of all images: they are read before the first call, and each load gives them a new
 //! generation, and so does each disk that is attached.
 ghost use Rattle.std.specs.Prelude.{◌≡◌, ◌≢◌, ◌<◌, ℕ, map, true, false, length, None, Some, IfSome, IsSome, IsSomeAnd};
-ghost use Rattle.paraid_imgrack.specs.Calls.{IsLookedAt, KeepsCauses, KeepsFound, cause_at, image_cause, has_file};
+ghost use Rattle.paraid_imgrack.specs.Calls.{CanGetLabel, IsLookedAt, KeepsCauses, KeepsFound, KeepsKnown, cause_at, image_cause, has_file};
 ghost use Rattle.paraid_imgrack.specs.Images.{AreTrueMisfits, Fit, image_misfit, image_slot, image_slot_at, image_tail, label_at, misfit_at, tail_at, IsDrawn, IsLook, IsMissed, IsTold};
-ghost use Rattle.paraid_imgrack.specs.Labels.{AreUnnamed, KeepsKnown, Names, SuitsBeside, known_array, label_in};
+ghost use Rattle.paraid_imgrack.specs.Labels.{AreUnnamed, Names, SuitsBeside, known_array, label_in};
 ghost use Rattle.paraid_imgrack.specs.Looks.{HasNoMisfits, HasTrueMisfits, IsFitting};
 ghost use Rattle.paraid_rack.specs.declared.call.Power.TheVariants.{Parked};
 
@@ -111,7 +111,7 @@ impl<F: Files<File = File> + Drop> ImageRack<F> {
         ensures told { IfSome self.new.identity IsTold }
         ensures known { known_array self.new.identity ≡ known_array self.old.identity }
         ensures keeps { IfSome self.old.identity (λ old. IfSome self.new.identity
-            (KeepsKnown old)) }
+            (KeepsKnown self.old.images.items old)) }
         ensures found { KeepsFound self.old.images.items self.new.images.items }
     {
         if self.are_labels_due() {
@@ -127,7 +127,7 @@ impl<F: Files<File = File> + Drop> ImageRack<F> {
         ensures told { IfSome self.new.identity IsTold }
         ensures known { known_array self.new.identity ≡ known_array self.old.identity }
         ensures keeps { IfSome self.old.identity (λ old. IfSome self.new.identity
-            (KeepsKnown old)) }
+            (KeepsKnown self.old.images.items old)) }
         ensures found { KeepsFound self.old.images.items self.new.images.items }
     {
         if let Some(identity) = self.identity {
@@ -152,7 +152,7 @@ impl<F: Files<File = File> + Drop> ImageRack<F> {
             ≡ map image_slot self.old.images.items }
         ensures marked { result.is_new ≡ false }
         ensures known { known_array (Some result) ≡ known_array (Some identity) }
-        ensures keeps { KeepsKnown identity result }
+        ensures keeps { KeepsKnown self.old.images.items identity result }
         ensures found { KeepsFound self.old.images.items self.new.images.items }
     {
         if !identity.is_new {
@@ -173,6 +173,7 @@ impl<F: Files<File = File> + Drop> ImageRack<F> {
         ensures slots { map image_slot self.new.images.items
             ≡ map image_slot self.old.images.items }
         ensures found { KeepsFound self.old.images.items self.new.images.items }
+        ensures given { result ≡ true → CanGetLabel self.old.images.items disk }
     {
         if disk >= self.images.len() || disk >= identity.disks as usize {
             return false;

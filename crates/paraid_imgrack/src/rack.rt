@@ -143,9 +143,9 @@ impl<F: Files<File = File> + Drop> Rack for ImageRack<F> {
     ghost use Rattle.paraid_rack.specs.Slots.{ChangesOneSlot};
     ghost use Rattle.paraid_rack.specs.Told.{GrowsByCall};
     ghost use Rattle.paraid_rack.specs.Trail.{Trail, now};
-    ghost use Rattle.paraid_imgrack.specs.Calls.{KeepsCause, KeepsFound, KeepsOtherImages, TellsCauseAt, cause_at, has_file_at};
+    ghost use Rattle.paraid_imgrack.specs.Calls.{KeepsCause, KeepsFound, KeepsKnown, KeepsOtherImages, TellsCauseAt, cause_at, has_file_at};
     ghost use Rattle.paraid_imgrack.specs.Images.{IsTold, image_slot_at, misfit_at, tail_at};
-    ghost use Rattle.paraid_imgrack.specs.Labels.{FitsTailLate, KeepsKnown, KeepsOthers, known_array};
+    ghost use Rattle.paraid_imgrack.specs.Labels.{FitsTailLate, KeepsOthers, known_array};
     ghost use Rattle.paraid_imgrack.specs.Laws.{are_slots, nothing_told};
     ghost use Rattle.paraid_imgrack.specs.declared.tail.Tail.TheVariants.{Unread};
 
@@ -227,7 +227,7 @@ impl<F: Files<File = File> + Drop> Rack for ImageRack<F> {
         ensures told { GrowsByCall None None (Sync disk (is_ok result)) }
         ensures known { known_array self.new.identity ≡ known_array self.old.identity }
         ensures keeps { IfSome self.old.identity (λ old. IfSome self.new.identity
-            (KeepsKnown old)) }
+            (KeepsKnown self.old.images.items old)) }
         ensures labels { IfSome self.new.identity IsTold }
         ensures found { KeepsFound self.old.images.items self.new.images.items }
         ensures why { is_ok result ≡ false → IsSome (cause_at self.new.images.items disk) }
