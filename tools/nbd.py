@@ -43,6 +43,7 @@ ASIDE = b"paraid: "  # begins a line of standard error, and no answer
 # An answer that tells of a disk that is gone, and one by which the next loss is another one.
 GONE = re.compile(rb"(?:state .* out|nofresh|two [0-9]) ([0-9])(?: gone .*)?")
 BACK = re.compile(rb"replaced |nofresh |state .* out (?:none|[0-9] rebuilt) ")
+LEFT = "its client has gone"
 PATIENCE = 1  # seconds for a look at a lost disk that is under way at the end
 
 
@@ -66,11 +67,18 @@ class Refused(Exception):
     """What the program answered in place of what was asked for, or why it does not answer."""
 
 
-class Batch:
-    """The lines of one request, and what becomes of them."""
+def has_gone(client):
+    """Whether the other end of a socket is closed. One that only sends no more still waits for its answer."""
+    either = select.poll()
+    either.register(client, 0)
+    return bool(either.poll(0))
 
-    def __init__(self, lines):
-        self.lines, self.answers, self.fault = lines, None, None
+
+class Batch:
+    """The lines of one request, and what becomes of them. One of the control socket has the socket of its client."""
+
+    def __init__(self, lines, client=None):
+        self.lines, self.client, self.answers, self.fault = lines, client, None, None
         self.wake = threading.Lock()
         self.wake.acquire()
 
@@ -257,6 +265,19 @@ class Array:
         while self.queue and count + len(self.queue[0].lines) <= MANY:
             batches.append(self.queue.popleft())
             count += len(batches[-1].lines)
+        asked = []
+        for batch in batches:
+            # (one that has waited for long, as for a drive that does not answer, may be wanted no more)
+            if batch.client is not None and has_gone(batch.client):
+                batch.fault = LEFT
+            else:
+                asked.append(batch)
+        if asked:
+            self.answer(asked)
+        return batches
+
+    def answer(self, batches):
+        """Asks for these together."""
         try:
             if self.run.sent >= self.limit:
                 self.renew()
@@ -269,11 +290,10 @@ class Array:
             self.run.ended = self.run.ended or str(fault)
             for batch in batches:
                 batch.fault = self.run.ended
-        return batches
 
-    def ask_some(self, lines):
+    def ask_some(self, lines, client=None):
         """Asks for at most MANY lines, which no other line of the program comes between."""
-        mine = Batch(lines)
+        mine = Batch(lines, client)
         self.queue.append(mine)
         is_mine = self.work.acquire(blocking=False)
         if not is_mine:
@@ -304,9 +324,10 @@ class Array:
         """Asks for all these lines and gives their answers."""
         return [said for at in range(0, len(lines), MANY) for said in self.ask_some(lines[at : at + MANY])]
 
-    def ask_one(self, line):
-        """Asks for a line that is no request of a client: what it is answered may tell of a loss."""
-        said = self.ask([line])[0]
+    def ask_one(self, line, client=None):
+        """Asks for a line that is no request of a client: what it is answered may tell of a loss. One of the control
+        socket is not asked for once its client has gone."""
+        said = self.ask_some([line], client)[0]
         self.looks.hear(said)
         return said
 
@@ -454,20 +475,22 @@ class Control:
         try:
             with client, client.makefile("rwb", buffering=0) as stream:
                 while line := stream.readline(64):
-                    stream.write(self.answer(line) + b"\n")
+                    stream.write(self.answer(line, client) + b"\n")
                     if not line.endswith(b"\n"):
                         return  # too long, or a part of what was to be asked
         except OSError:
             pass
 
-    def answer(self, line):
+    def answer(self, line, client):
         """What the array says to a line, or why it says nothing; `bad` where it is not asked."""
         if not ASKED.fullmatch(line):
             return b"bad"
         line = line[:-1]
         try:
-            said = self.array.ask_one(line)
+            said = self.array.ask_one(line, client)
         except Refused as fault:
+            if str(fault) == LEFT and line not in (b"s", b"e"):
+                log(f"not asked {text(line)}: {fault}")
             return f"ended: {fault}".encode()
         if line not in (b"s", b"e"):
             log(f"asked {text(line)}: {text(said)}")
