@@ -35,6 +35,7 @@ API_VERSION = 2
 sys.tracebacklimit = 0  # nbdkit tells an error by its line alone
 SIZE = 512
 PAIRS, LINE = 8, 1100  # of one write: its blocks at most, and the bytes of its line
+MOST_TICKS = 86400  # that no commit has kept yet
 MANY = 128  # lines that are sent as one, so that no request keeps the others waiting for long
 ASKED = re.compile(rb"(s|e|up|down|(fail|replace) (0|[1-9][0-9]{0,9}))\n")
 HALTS = (b"two ", b"worn ")
@@ -224,6 +225,8 @@ class Array:
     def __init__(self, program, folder, limit):
         self.program, self.folder, self.limit = program, folder, limit
         self.queue, self.work = collections.deque(), threading.Lock()
+        # the ticks since the last flush of a write, and whether one was written since
+        self.ticks, self.has_written, self.is_read_only = 0, False, False
         self.looks = Looks(folder)
         self.run = Run(program, folder)
         self.blocks = self.count_blocks()
@@ -246,6 +249,7 @@ class Array:
         """Ends the run, which flushes, and begins the next: one takes 2^40 bytes at most."""
         if self.run.ended:
             return
+        self.keep_ticks()
         said = self.run.close()
         try:
             if not said.startswith("end "):
@@ -257,6 +261,29 @@ class Array:
             return
         self.run = run
         log(f"{run.mounted} (a new run, after {self.limit} bytes)")
+
+    def keep_ticks(self):
+        """Has a commit keep the ticks: the end of a run forgets those that came after the last one, and the ration of
+        spin-ups grows by those that are kept. Block 0 is written as it is. Only who has the work may call this, so no
+        request comes between. What goes wrong here is for the next request, or for the end of the run."""
+        if not self.ticks or self.is_read_only or self.run.ended:
+            return
+        self.ticks, self.has_written = 0, False
+        try:
+            said = self.run.ask([b"r 0"])[0]
+            if said.startswith(b"0="):
+                said = self.run.ask([b"w 0 " + said[2:], b"f"])[-1]
+        except Exception as fault:
+            said = str(fault).encode()
+        if not said.startswith((b"flushed ", *HALTS)):
+            log(f"ticks are not kept: {text(said)}")
+
+    def count_ticks(self, batch):
+        """Counts a tick, and begins anew where a flush has kept all of them."""
+        self.ticks += batch.lines == [b"t"]
+        self.has_written |= batch.answers[0].startswith(b"wrote ")
+        if self.has_written and batch.answers[-1].startswith(b"flushed "):
+            self.ticks, self.has_written = 0, False
 
     def turn(self):
         """Asks for what was queued first, up to some lines, and tells each thread its answers."""
@@ -281,11 +308,14 @@ class Array:
         try:
             if self.run.sent >= self.limit:
                 self.renew()
+            if self.ticks >= MOST_TICKS:
+                self.keep_ticks()
             answers = self.run.ask([line for batch in batches for line in batch.lines])
             at = 0
             for batch in batches:
                 batch.answers = answers[at : at + len(batch.lines)]
                 at += len(batch.lines)
+                self.count_ticks(batch)
         except Exception as fault:  # those who wait are told of any
             self.run.ended = self.run.ended or str(fault)
             for batch in batches:
@@ -366,6 +396,7 @@ class Array:
     def close(self):
         """Ends the run once nobody asks for anything, and gives its last line."""
         with self.work:
+            self.keep_ticks()
             return self.run.close()
 
 
@@ -669,7 +700,8 @@ def cleanup():
 
 
 def open(readonly):
-    """A client connects: all have the same array, so there is nothing to keep of it."""
+    """A client connects: all have the same array, so nothing is kept of it but whether any may write."""
+    array.is_read_only = readonly
     return True
 
 
