@@ -11,6 +11,7 @@ import ctypes
 import errno
 import io
 import os
+import pwd
 import re
 import stat
 import struct
@@ -354,6 +355,47 @@ class Folder:
             except PermissionError:
                 self.files[disk] = os.open(self.image(disk), flags)
         return self.files[disk]
+
+
+def user_name(number):
+    try:
+        return pwd.getpwuid(number).pw_name
+    except KeyError:
+        return f"user {number}"
+
+
+def has_access_list(name):
+    with contextlib.suppress(OSError):
+        return "system.posix_acl_access" in os.listxattr(name)
+    return False
+
+
+class Owner:
+    """The user to whom a folder belongs."""
+
+    def __init__(self, path):
+        self.number = os.stat(path).st_uid
+        self.name, self.groups = user_name(self.number), ()
+        with contextlib.suppress(KeyError):
+            self.groups = os.getgrouplist(self.name, pwd.getpwuid(self.number).pw_gid)
+
+    def may_open(self, name):
+        """Whether it may read and write a file, by the owner and the mode of that. One with an access list is passed over."""
+        it = os.stat(name)
+        shift = 6 if it.st_uid == self.number else 3 if it.st_gid in self.groups else 0
+        return self.number == 0 or it.st_mode >> shift & 6 == 6 or has_access_list(name)
+
+    def barred_from(self, folder, disk):
+        """Why it cannot mount the array with a file of a disk. An image counts where its sidecar has a mount look at it."""
+        sidecar, image = os.path.join(folder.path, f"disk-{disk}.power"), folder.image(disk)
+        names = [sidecar] if folder.power(disk) in AWAY else [sidecar, image]
+        for name in names:
+            if found(name) == "file" and not self.may_open(name):
+                it, short = os.stat(name), os.path.basename(name)
+                if it.st_uid == self.number:
+                    return f"{short} has mode {it.st_mode & 0o777:03o}: {self.name}, its owner, cannot mount this"
+                return f"{short} belongs to {user_name(it.st_uid)}, and the folder to {self.name}: its owner cannot mount this"
+        return None
 
 
 def is_fixed(name):

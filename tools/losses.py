@@ -8,19 +8,24 @@ import images
 # A sector further on may be bad, or writes may fail: that is not looked at, as it would keep a drive busy.
 SOUND = ("nothing is wrong with its first block, size and label: the kernel's log (dmesg) may tell why it was lost,"
          " and the program tells its error as it ends")
+# The same where the drive is left alone.
+UNREAD = "nothing is wrong with its link, its size and its sidecar; its drive was not read"
 
 
-def seen(path, disk):
-    """The first thing that is wrong with the files of a disk now, by which it may have been lost."""
+def seen(path, disk, is_read=True):
+    """The first thing that is wrong with the files of a disk now, by which it may have been lost. Its drive is left
+    alone unless `is_read`: one that is parked would wake, and one that fails may keep its reader waiting."""
     with contextlib.closing(images.Folder(path)) as folder:
-        for look in (of_image, of_sidecar, of_first_block, of_size, of_label, of_writes):
+        for look in LOOKS:
+            if not is_read and look in OF_DRIVE:
+                continue
             try:
                 text = look(folder, disk)
             except OSError as fault:
                 text = f"{os.path.basename(fault.filename or folder.image(disk))} cannot be opened: {fault.strerror}"
             if text:
                 return text
-    return SOUND
+    return SOUND if is_read else UNREAD
 
 
 def of_name(name):
@@ -80,3 +85,7 @@ def of_label(folder, disk):
 def of_writes(folder, disk):
     is_fixed = folder.is_read_only(disk, images.read_only_devices())
     return images.TAKES_NO_WRITES.format(disk) if is_fixed else None
+
+
+LOOKS = (of_image, of_sidecar, of_first_block, of_size, of_label, of_writes)
+OF_DRIVE = (of_first_block, of_label)

@@ -35,6 +35,7 @@ API_VERSION = 2
 sys.tracebacklimit = 0  # nbdkit tells an error by its line alone
 SIZE = 512
 PAIRS, LINE = 8, 1100  # of one write: its blocks at most, and the bytes of its line
+MOST_TICKS = 86400  # that no commit has kept yet
 MANY = 128  # lines that are sent as one, so that no request keeps the others waiting for long
 ASKED = re.compile(rb"(s|e|up|down|(fail|replace) (0|[1-9][0-9]{0,9}))\n")
 HALTS = (b"two ", b"worn ")
@@ -43,6 +44,7 @@ ASIDE = b"paraid: "  # begins a line of standard error, and no answer
 # An answer that tells of a disk that is gone, and one by which the next loss is another one.
 GONE = re.compile(rb"(?:state .* out|nofresh|two [0-9]) ([0-9])(?: gone .*)?")
 BACK = re.compile(rb"replaced |nofresh |state .* out (?:none|[0-9] rebuilt) ")
+LEFT = "its client has gone"
 PATIENCE = 1  # seconds for a look at a lost disk that is under way at the end
 
 
@@ -66,11 +68,18 @@ class Refused(Exception):
     """What the program answered in place of what was asked for, or why it does not answer."""
 
 
-class Batch:
-    """The lines of one request, and what becomes of them."""
+def has_gone(client):
+    """Whether the other end of a socket is closed. One that only sends no more still waits for its answer."""
+    either = select.poll()
+    either.register(client, 0)
+    return bool(either.poll(0))
 
-    def __init__(self, lines):
-        self.lines, self.answers, self.fault = lines, None, None
+
+class Batch:
+    """The lines of one request, and what becomes of them. One of the control socket has the socket of its client."""
+
+    def __init__(self, lines, client=None):
+        self.lines, self.client, self.answers, self.fault = lines, client, None, None
         self.wake = threading.Lock()
         self.wake.acquire()
 
@@ -216,6 +225,8 @@ class Array:
     def __init__(self, program, folder, limit):
         self.program, self.folder, self.limit = program, folder, limit
         self.queue, self.work = collections.deque(), threading.Lock()
+        # the ticks since the last flush of a write, and whether one was written since
+        self.ticks, self.has_written, self.is_read_only = 0, False, False
         self.looks = Looks(folder)
         self.run = Run(program, folder)
         self.blocks = self.count_blocks()
@@ -238,6 +249,7 @@ class Array:
         """Ends the run, which flushes, and begins the next: one takes 2^40 bytes at most."""
         if self.run.ended:
             return
+        self.keep_ticks()
         said = self.run.close()
         try:
             if not said.startswith("end "):
@@ -250,6 +262,29 @@ class Array:
         self.run = run
         log(f"{run.mounted} (a new run, after {self.limit} bytes)")
 
+    def keep_ticks(self):
+        """Has a commit keep the ticks: the end of a run forgets those that came after the last one, and the ration of
+        spin-ups grows by those that are kept. Block 0 is written as it is. Only who has the work may call this, so no
+        request comes between. What goes wrong here is for the next request, or for the end of the run."""
+        if not self.ticks or self.is_read_only or self.run.ended:
+            return
+        self.ticks, self.has_written = 0, False
+        try:
+            said = self.run.ask([b"r 0"])[0]
+            if said.startswith(b"0="):
+                said = self.run.ask([b"w 0 " + said[2:], b"f"])[-1]
+        except Exception as fault:
+            said = str(fault).encode()
+        if not said.startswith((b"flushed ", *HALTS)):
+            log(f"ticks are not kept: {text(said)}")
+
+    def count_ticks(self, batch):
+        """Counts a tick, and begins anew where a flush has kept all of them."""
+        self.ticks += batch.lines == [b"t"]
+        self.has_written |= batch.answers[0].startswith(b"wrote ")
+        if self.has_written and batch.answers[-1].startswith(b"flushed "):
+            self.ticks, self.has_written = 0, False
+
     def turn(self):
         """Asks for what was queued first, up to some lines, and tells each thread its answers."""
         batches = [self.queue.popleft()]
@@ -257,23 +292,38 @@ class Array:
         while self.queue and count + len(self.queue[0].lines) <= MANY:
             batches.append(self.queue.popleft())
             count += len(batches[-1].lines)
+        asked = []
+        for batch in batches:
+            # (one that has waited for long, as for a drive that does not answer, may be wanted no more)
+            if batch.client is not None and has_gone(batch.client):
+                batch.fault = LEFT
+            else:
+                asked.append(batch)
+        if asked:
+            self.answer(asked)
+        return batches
+
+    def answer(self, batches):
+        """Asks for these together."""
         try:
             if self.run.sent >= self.limit:
                 self.renew()
+            if self.ticks >= MOST_TICKS:
+                self.keep_ticks()
             answers = self.run.ask([line for batch in batches for line in batch.lines])
             at = 0
             for batch in batches:
                 batch.answers = answers[at : at + len(batch.lines)]
                 at += len(batch.lines)
+                self.count_ticks(batch)
         except Exception as fault:  # those who wait are told of any
             self.run.ended = self.run.ended or str(fault)
             for batch in batches:
                 batch.fault = self.run.ended
-        return batches
 
-    def ask_some(self, lines):
+    def ask_some(self, lines, client=None):
         """Asks for at most MANY lines, which no other line of the program comes between."""
-        mine = Batch(lines)
+        mine = Batch(lines, client)
         self.queue.append(mine)
         is_mine = self.work.acquire(blocking=False)
         if not is_mine:
@@ -304,9 +354,10 @@ class Array:
         """Asks for all these lines and gives their answers."""
         return [said for at in range(0, len(lines), MANY) for said in self.ask_some(lines[at : at + MANY])]
 
-    def ask_one(self, line):
-        """Asks for a line that is no request of a client: what it is answered may tell of a loss."""
-        said = self.ask([line])[0]
+    def ask_one(self, line, client=None):
+        """Asks for a line that is no request of a client: what it is answered may tell of a loss. One of the control
+        socket is not asked for once its client has gone."""
+        said = self.ask_some([line], client)[0]
         self.looks.hear(said)
         return said
 
@@ -345,6 +396,7 @@ class Array:
     def close(self):
         """Ends the run once nobody asks for anything, and gives its last line."""
         with self.work:
+            self.keep_ticks()
             return self.run.close()
 
 
@@ -454,20 +506,22 @@ class Control:
         try:
             with client, client.makefile("rwb", buffering=0) as stream:
                 while line := stream.readline(64):
-                    stream.write(self.answer(line) + b"\n")
+                    stream.write(self.answer(line, client) + b"\n")
                     if not line.endswith(b"\n"):
                         return  # too long, or a part of what was to be asked
         except OSError:
             pass
 
-    def answer(self, line):
+    def answer(self, line, client):
         """What the array says to a line, or why it says nothing; `bad` where it is not asked."""
         if not ASKED.fullmatch(line):
             return b"bad"
         line = line[:-1]
         try:
-            said = self.array.ask_one(line)
+            said = self.array.ask_one(line, client)
         except Refused as fault:
+            if str(fault) == LEFT and line not in (b"s", b"e"):
+                log(f"not asked {text(line)}: {fault}")
             return f"ended: {fault}".encode()
         if line not in (b"s", b"e"):
             log(f"asked {text(line)}: {text(said)}")
@@ -646,7 +700,8 @@ def cleanup():
 
 
 def open(readonly):
-    """A client connects: all have the same array, so there is nothing to keep of it."""
+    """A client connects: all have the same array, so nothing is kept of it but whether any may write."""
+    array.is_read_only = readonly
     return True
 
 
