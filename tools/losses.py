@@ -45,8 +45,7 @@ def of_sidecar(folder, disk):
         return None
     if text := of_name(name):
         return text
-    with open(name, "rb") as file:
-        is_known = file.read(images.LONGEST_WORD).strip() in (b"spinning", b"parked", b"failed")
+    is_known = images.read_file(name, images.LONGEST_WORD)[0].strip() in images.WORDS
     return None if is_known else f"{os.path.basename(name)} says neither spinning nor parked"
 
 
