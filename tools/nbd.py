@@ -645,6 +645,14 @@ def cleanup():
         signal.signal(number, signal.SIG_IGN)
 
 
+def preconnect(readonly):
+    """Turns a client away before all files that this process may open are in use. nbdkit would then try to take the
+    next one again and again, and log each time that it cannot."""
+    with contextlib.suppress(FileNotFoundError):  # without /proc nothing tells
+        if len(os.listdir("/proc/self/fd")) > resource.getrlimit(resource.RLIMIT_NOFILE)[0] // 2:
+            raise RuntimeError("too many clients: half of the files that nbdkit may open are in use")
+
+
 def open(readonly):
     """A client connects: all have the same array, so there is nothing to keep of it."""
     return True
