@@ -266,7 +266,7 @@ class Array:
                 batch.answers = answers[at : at + len(batch.lines)]
                 at += len(batch.lines)
         except Exception as fault:  # those who wait are told of any
-            self.run.ended = self.run.ended or str(fault)
+            self.run.ended = self.run.ended or str(fault) or repr(fault)
             for batch in batches:
                 batch.fault = self.run.ended
         return batches
