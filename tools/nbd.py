@@ -380,7 +380,7 @@ class Clock:
             try:
                 said = text(self.array.ask_one(b"t"))
                 if not said.startswith("tick ") or len(said.split()) < 5:
-                    raise Refused(said)
+                    self.array.refuse(said.encode())
                 self.tell(said.split()[4:], said)
             except Refused as fault:
                 log(f"each request is answered by an error from now on: {fault}")
