@@ -235,6 +235,11 @@ def size_text(count):
     return f"{count} bytes"
 
 
+def shown(text):
+    """A text of others as it is told: no character of it does anything in a terminal or begins a line."""
+    return "".join(it if it.isprintable() else ascii(it)[1:-1] for it in text)
+
+
 def is_folder(path):
     """Whether there is such a folder. What this user may not know raises PermissionError."""
     try:

@@ -30,7 +30,7 @@ def of_name(name):
         return None if stat.S_ISREG(os.stat(name).st_mode) else f"{short} is no file"
     except FileNotFoundError:
         if os.path.islink(name):
-            return f"{short} is a link that leads nowhere: there is no {os.path.realpath(name)}"
+            return f"{short} is a link that leads nowhere: there is no {images.shown(os.path.realpath(name))}"
         return f"{short} is missing"
 
 
