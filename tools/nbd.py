@@ -75,6 +75,16 @@ class Batch:
         self.wake.acquire()
 
 
+def mask_of(folder):
+    """The mask by which new files of an array give others no right that its images lack: that of nbdkit would let all
+    read them. Disks 0 to 2 tell, as they are never parked: a look at another one may wake its drive."""
+    mask = 0o022
+    for disk in range(3):
+        with contextlib.suppress(OSError):
+            mask |= 0o077 & ~os.stat(os.path.join(folder, f"disk-{disk}.img")).st_mode
+    return mask
+
+
 class Run:
     """One `paraid run`, for one thread at a time."""
 
@@ -83,10 +93,14 @@ class Run:
         # to close ours alone would not end it.
         self.input, theirs = socket.socketpair()
         with theirs:
-            # In a session of its own: an interrupt from the keyboard is for nbdkit, which then ends the input.
-            self.process = subprocess.Popen([program, "run"], cwd=folder, stdin=theirs, bufsize=0,
-                                            stdout=subprocess.PIPE, stderr=subprocess.STDOUT,
-                                            start_new_session=True)
+            old = os.umask(mask_of(folder))
+            try:
+                # In a session of its own: an interrupt from the keyboard is for nbdkit, which then ends the input.
+                self.process = subprocess.Popen([program, "run"], cwd=folder, stdin=theirs, bufsize=0,
+                                                stdout=subprocess.PIPE, stderr=subprocess.STDOUT,
+                                                start_new_session=True)
+            finally:
+                os.umask(old)
         self.input.setblocking(False)
         self.output = self.process.stdout.fileno()
         self.both = select.poll()
