@@ -25,6 +25,7 @@ ZERO = bytes(BLOCK)
 MOST_DISKS = 8
 WORN = 2**62
 LONGEST_WORD = 64
+WORDS = (b"spinning", b"parked", b"failed")
 # The disk whose places 0 and 1 bear witness against log disks 0 and 1.
 BEARER = 2
 AWAY = ("absent", "shut")
@@ -235,6 +236,11 @@ def size_text(count):
     return f"{count} bytes"
 
 
+def shown(text):
+    """A text of others as it is told: no character of it does anything in a terminal or begins a line."""
+    return "".join(it if it.isprintable() else ascii(it)[1:-1] for it in text)
+
+
 def is_folder(path):
     """Whether there is such a folder. What this user may not know raises PermissionError."""
     try:
@@ -256,6 +262,22 @@ def found(name):
         if not os.path.lexists(name):
             return "nothing"
         return "none" if fault.errno in OF_DEVICE else "shut"
+
+
+def read_file(name, most):
+    """The first bytes of a file, and when it was written. Nothing else is opened, as others may have put it there:
+    a pipe keeps its reader waiting, and a device may do something by the open alone."""
+    place = os.open(name, os.O_PATH | os.O_CLOEXEC)
+    try:
+        it = os.fstat(place)
+        if not stat.S_ISREG(it.st_mode):
+            raise OSError(errno.EINVAL, "it is no file")
+        with open(f"/proc/self/fd/{place}", "rb") as file:
+            return file.read(most), it.st_mtime_ns
+    except OSError as fault:
+        raise OSError(fault.errno, fault.strerror, name) from None
+    finally:
+        os.close(place)
 
 
 class Folder:
@@ -291,18 +313,14 @@ class Folder:
         there = found(sidecar)
         if there != "file":
             return {"nothing": "spinning", "shut": "shut"}.get(there, "absent")
-        with open(sidecar, "rb") as file:
-            text = file.read(LONGEST_WORD + 1)
+        text, _ = read_file(sidecar, LONGEST_WORD + 1)
         word = text.rstrip(b" \t\n\f\r") if len(text) <= LONGEST_WORD else b""
         return word.decode() if word in (b"spinning", b"parked") else "absent"
 
     def has_failed(self, disk):
         """Whether the sidecar of a disk says so."""
         sidecar = os.path.join(self.path, f"disk-{disk}.power")
-        if found(sidecar) != "file":
-            return False
-        with open(sidecar, "rb") as file:
-            return file.read(LONGEST_WORD).strip() == b"failed"
+        return found(sidecar) == "file" and read_file(sidecar, LONGEST_WORD)[0].strip() == b"failed"
 
     def has_labels(self):
         """Whether a label tells that an array is here. Those of lost disks count, and no parked image is opened."""

@@ -35,7 +35,7 @@ def of_name(name):
         return None if stat.S_ISREG(os.stat(name).st_mode) else f"{short} is no file"
     except FileNotFoundError:
         if os.path.islink(name):
-            return f"{short} is a link that leads nowhere: there is no {os.path.realpath(name)}"
+            return f"{short} is a link that leads nowhere: there is no {images.shown(os.path.realpath(name))}"
         return f"{short} is missing"
 
 
@@ -50,8 +50,7 @@ def of_sidecar(folder, disk):
         return None
     if text := of_name(name):
         return text
-    with open(name, "rb") as file:
-        is_known = file.read(images.LONGEST_WORD).strip() in (b"spinning", b"parked", b"failed")
+    is_known = images.read_file(name, images.LONGEST_WORD)[0].strip() in images.WORDS
     return None if is_known else f"{os.path.basename(name)} says neither spinning nor parked"
 
 

@@ -84,6 +84,16 @@ class Batch:
         self.wake.acquire()
 
 
+def mask_of(folder):
+    """The mask by which new files of an array give others no right that its images lack: that of nbdkit would let all
+    read them. Disks 0 to 2 tell, as they are never parked: a look at another one may wake its drive."""
+    mask = 0o022
+    for disk in range(3):
+        with contextlib.suppress(OSError):
+            mask |= 0o077 & ~os.stat(os.path.join(folder, f"disk-{disk}.img")).st_mode
+    return mask
+
+
 class Run:
     """One `paraid run`, for one thread at a time."""
 
@@ -92,10 +102,14 @@ class Run:
         # to close ours alone would not end it.
         self.input, theirs = socket.socketpair()
         with theirs:
-            # In a session of its own: an interrupt from the keyboard is for nbdkit, which then ends the input.
-            self.process = subprocess.Popen([program, "run"], cwd=folder, stdin=theirs, bufsize=0,
-                                            stdout=subprocess.PIPE, stderr=subprocess.STDOUT,
-                                            start_new_session=True)
+            old = os.umask(mask_of(folder))
+            try:
+                # In a session of its own: an interrupt from the keyboard is for nbdkit, which then ends the input.
+                self.process = subprocess.Popen([program, "run"], cwd=folder, stdin=theirs, bufsize=0,
+                                                stdout=subprocess.PIPE, stderr=subprocess.STDOUT,
+                                                start_new_session=True)
+            finally:
+                os.umask(old)
         self.input.setblocking(False)
         self.output = self.process.stdout.fileno()
         self.both = select.poll()
@@ -317,7 +331,7 @@ class Array:
                 at += len(batch.lines)
                 self.count_ticks(batch)
         except Exception as fault:  # those who wait are told of any
-            self.run.ended = self.run.ended or str(fault)
+            self.run.ended = self.run.ended or str(fault) or repr(fault)
             for batch in batches:
                 batch.fault = self.run.ended
 
@@ -432,7 +446,7 @@ class Clock:
             try:
                 said = text(self.array.ask_one(b"t"))
                 if not said.startswith("tick ") or len(said.split()) < 5:
-                    raise Refused(said)
+                    self.array.refuse(said.encode())
                 self.tell(said.split()[4:], said)
             except Refused as fault:
                 log(f"each request is answered by an error from now on: {fault}")
@@ -699,6 +713,14 @@ def cleanup():
         signal.signal(number, signal.SIG_IGN)
 
 
+def preconnect(readonly):
+    """Turns a client away before all files that this process may open are in use. nbdkit would then try to take the
+    next one again and again, and log each time that it cannot."""
+    with contextlib.suppress(FileNotFoundError):  # without /proc nothing tells
+        if len(os.listdir("/proc/self/fd")) > resource.getrlimit(resource.RLIMIT_NOFILE)[0] // 2:
+            raise RuntimeError("too many clients: half of the files that nbdkit may open are in use")
+
+
 def open(readonly):
     """A client connects: all have the same array, so nothing is kept of it but whether any may write."""
     array.is_read_only = readonly
@@ -728,6 +750,11 @@ def can_flush(h):
 def can_fua(h):
     """Tells clients that a write may ask for its own flush, which this plugin makes."""
     return nbdkit.FUA_NATIVE
+
+
+def can_fast_zero(h):
+    """Zeros take less than the same write. Without this, nbdkit (1.32) ends by an assertion if a client asks for that."""
+    return True
 
 
 def can_trim(h):
