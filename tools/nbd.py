@@ -288,7 +288,9 @@ class Array:
             if said.startswith(b"0="):
                 said = self.run.ask([b"w 0 " + said[2:], b"f"])[-1]
         except Exception as fault:
-            said = str(fault).encode()
+            # (an answer may still come, which would be taken for that of the next request)
+            self.run.ended = self.run.ended or str(fault) or repr(fault)
+            said = self.run.ended.encode()
         if not said.startswith((b"flushed ", *HALTS)):
             log(f"ticks are not kept: {text(said)}")
 
