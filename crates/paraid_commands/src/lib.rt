@@ -3,7 +3,7 @@
 //! `format` reads a configuration from a source and makes an array of the disks of a rack; `status`
 //! mounts one and tells its state; `run`, with and without spares, `gen`, `check`, `nbd`, `vol` and
 //! `plan` mount one and answer with it. Each tells how it came out in its last line and a status.
-//! The commands stand over anything that mounts an array (`Outside`).
+//! All but `format`, `status` and `plan` stand over anything that mounts an array (`Outside`).
 #![tactic(auto)]
 
 mod array_state;

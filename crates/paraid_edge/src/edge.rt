@@ -19,7 +19,7 @@ use std::fs::{self, File, Files};
 use std::io::{self, Eprint, Input, Print};
 use std::os::fd::AsRawFd;
 
-/// What the program takes of the system.
+/// What the edge takes of the system.
 pub trait Host: Files<File = File> + AllocGlobal + Input + Print + Eprint {}
 
 impl<R: Files<File = File> + AllocGlobal + Input + Print + Eprint> Host for R {}
@@ -53,6 +53,8 @@ impl Folder {
 }
 
 /// Does what the words ask for with the images of the current folder.
+///
+/// The status is the one that the program gave; or it is 3, 4, 6, 7 or 16, and the program is left.
 pub fn answer_words<'a, H: Host, P: Program<&'a H>>(
     rt: &'a H,
     program: P,

@@ -87,7 +87,7 @@ pub record KeepsOtherImages (old new : List Image) (disk : ℕ) : Type 0 where
   pub files : (d : ℕ) → d ≢ disk → has_file_at new d ≡ has_file_at old d
 
 -- That this image spins and a label can be written behind its blocks, as they were last looked at.
--- No other gets one.
+-- No other gets one when labels are renewed.
 abbrev pub CanGetLabel : List Image → ℕ → Type 0
 CanGetLabel images d = ((image_slot_at images d).power ≡ Spinning) × CanHaveLabel (end_at images d)
 
