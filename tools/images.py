@@ -272,7 +272,11 @@ def read_file(name, most):
         it = os.fstat(place)
         if not stat.S_ISREG(it.st_mode):
             raise OSError(errno.EINVAL, "it is no file")
-        with open(f"/proc/self/fd/{place}", "rb") as file:
+        try:
+            file = open(f"/proc/self/fd/{place}", "rb")
+        except FileNotFoundError:  # (without /proc its name alone leads to it)
+            file = open(os.open(name, os.O_RDONLY | os.O_CLOEXEC | os.O_NOCTTY | os.O_NONBLOCK), "rb")
+        with file:
             return file.read(most), it.st_mtime_ns
     except OSError as fault:
         raise OSError(fault.errno, fault.strerror, name) from None

@@ -67,6 +67,8 @@ def of_first_block(folder, disk):
 
 def of_size(folder, disk):
     for log in {0, 1} - {disk}:
+        if folder.power(log) != "spinning":  # (one that failed may keep its reader waiting)
+            continue
         with contextlib.suppress(OSError):
             meta = images.side_of(folder.read(log, 0, images.LOG)).meta
             if meta is not None and folder.size(disk) < meta.geometry.size:

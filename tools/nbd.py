@@ -35,7 +35,7 @@ API_VERSION = 2
 sys.tracebacklimit = 0  # nbdkit tells an error by its line alone
 SIZE = 512
 PAIRS, LINE = 8, 1100  # of one write: its blocks at most, and the bytes of its line
-MOST_TICKS = 86400  # that no commit has kept yet
+KEPT = 3600  # seconds that ticks wait for a commit, which keeps them
 MANY = 128  # lines that are sent as one, so that no request keeps the others waiting for long
 ASKED = re.compile(rb"(s|e|up|down|(fail|replace) (0|[1-9][0-9]{0,9}))\n")
 HALTS = (b"two ", b"worn ")
@@ -239,8 +239,8 @@ class Array:
     def __init__(self, program, folder, limit):
         self.program, self.folder, self.limit = program, folder, limit
         self.queue, self.work = collections.deque(), threading.Lock()
-        # the ticks since the last flush of a write, and whether one was written since
-        self.ticks, self.has_written, self.is_read_only = 0, False, False
+        # the ticks since the last flush of a write, whether one was written since, and when they were kept
+        self.ticks, self.has_written, self.kept, self.is_read_only = 0, False, time.monotonic(), False
         self.looks = Looks(folder)
         self.run = Run(program, folder)
         self.blocks = self.count_blocks()
@@ -263,7 +263,6 @@ class Array:
         """Ends the run, which flushes, and begins the next: one takes 2^40 bytes at most."""
         if self.run.ended:
             return
-        self.keep_ticks()
         said = self.run.close()
         try:
             if not said.startswith("end "):
@@ -279,8 +278,17 @@ class Array:
     def keep_ticks(self):
         """Has a commit keep the ticks: the end of a run forgets those that came after the last one, and the ration of
         spin-ups grows by those that are kept. Block 0 is written as it is. Only who has the work may call this, so no
-        request comes between. What goes wrong here is for the next request, or for the end of the run."""
-        if not self.ticks or self.is_read_only or self.run.ended:
+        request comes between. What goes wrong here is for the next request.
+
+        It is not done at the end, which may come since drives went away together: a request would lose them, and
+        without one they come back whole."""
+        self.kept = time.monotonic()
+        if self.is_read_only:
+            return
+        seen = {disk: losses.seen(self.folder, disk) for disk in range(3)}
+        bad = [f"disk {disk}: {said}" for disk, said in seen.items() if said != losses.SOUND]
+        if len(bad) > 1:
+            log(f"ticks are not kept: {'; '.join(bad)}")
             return
         self.ticks, self.has_written = 0, False
         try:
@@ -299,7 +307,7 @@ class Array:
         self.ticks += batch.lines == [b"t"]
         self.has_written |= batch.answers[0].startswith(b"wrote ")
         if self.has_written and batch.answers[-1].startswith(b"flushed "):
-            self.ticks, self.has_written = 0, False
+            self.ticks, self.has_written, self.kept = 0, False, time.monotonic()
 
     def turn(self):
         """Asks for what was queued first, up to some lines, and tells each thread its answers."""
@@ -324,7 +332,7 @@ class Array:
         try:
             if self.run.sent >= self.limit:
                 self.renew()
-            if self.ticks >= MOST_TICKS:
+            if self.ticks and time.monotonic() - self.kept >= KEPT:
                 self.keep_ticks()
             answers = self.run.ask([line for batch in batches for line in batch.lines])
             at = 0
@@ -412,7 +420,6 @@ class Array:
     def close(self):
         """Ends the run once nobody asks for anything, and gives its last line."""
         with self.work:
-            self.keep_ticks()
             return self.run.close()
 
 
